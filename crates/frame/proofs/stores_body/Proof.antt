@@ -1,0 +1,64 @@
+-- `frame::stores_body` meets its contract: each arm knows the length.
+-- Assumes nothing.
+use mathlib.Core.Path.{sym, _∙_}
+use borrow.Author.Tests.{ne-eqb, eq-eqb}
+use borrow.Author.Needs.{needs}
+use Rattle.frame.proofs.stores_body.Statement.{statement}
+use Rattle.frame.proofs.stores_body.Tie as tie
+
+array-read-op : tie.Need-array-read-op
+array-read-op c = search needs
+
+data-length-requires : tie.Need-data-length-requires
+data-length-requires c κs = search needs
+
+enum-told : tie.Need-enum-told
+enum-told c = search needs
+
+enum-told-2 : tie.Need-enum-told-2
+enum-told-2 c = search needs
+
+array-read-result : tie.Need-array-read-result
+array-read-result c = search needs
+
+enum-told-3 : tie.Need-enum-told-3
+enum-told-3 c = search needs
+
+array-read-result-2 : tie.Need-array-read-result-2
+array-read-result-2 c = search needs
+
+enum-told-4 : tie.Need-enum-told-4
+enum-told-4 c = search needs
+
+returns : tie.Need-returns
+returns c = simp (sym (c .before .before .data-length .ensures) ∙ c .enum-told .given .1)
+
+returns-2 : tie.Need-returns-2
+returns-2 c = simp (sym (c .before .before .before .data-length .ensures) ∙ c .before .enum-told2 .given .1, ne-eqb _ _ (c .if1 .taken))
+
+returns-3 : tie.Need-returns-3
+returns-3 c = simp (sym (c .before .before .before .data-length .ensures) ∙ c .before .enum-told2 .given .1, eq-eqb _ _ (c .if1 .left))
+
+returns-4 : tie.Need-returns-4
+returns-4 c = simp (sym (c .before .before .data-length .ensures) ∙ c .enum-told3 .given .1)
+
+returns-5 : tie.Need-returns-5
+returns-5 c = simp (sym (c .before .before .data-length .ensures) ∙ c .enum-told4 .given .1)
+
+pub stores-body-spec : {M : Type 1} → statement M
+stores-body-spec =
+    tie.close
+    (tie.spec
+    array-read-op
+    data-length-requires
+    enum-told
+    enum-told-2
+    array-read-result
+    enum-told-3
+    array-read-result-2
+    enum-told-4
+    returns
+    returns-2
+    returns-3
+    returns-4
+    returns-5)

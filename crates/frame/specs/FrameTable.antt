@@ -1,0 +1,43 @@
+-- The frame table (document 01, 'Cutting bytes into frames'): how many data bytes an opcode has.
+-- Assumes nothing.
+use Prim.Native.Nat.{ℕ}
+use mathlib.Core.Bool.{cond}
+use mathlib.Core.List.{List, [], _∷_, _++_}
+use Rattle.wire.specs.Lists.{among, span}
+use Rattle.frame.specs.declared.Length.{Length}
+use Rattle.frame.specs.declared.Length.the-variants.{Fixed, Counted, Song, Unknown}
+
+-- a row of the table: these opcodes have this length
+pub record Row : Type 0 where
+  pub opcodes : List ℕ
+  pub length : Length
+
+abbrev row : List ℕ → Length → Row
+row ops n = record { opcodes = ops; length = n }
+
+-- document 01's rows, in its order. Its last, 'all others', is the end of the list.
+abbrev pub frameTable : List Row
+frameTable =
+    row (128 ∷ (span 130 7 ++ (143 ∷ 153 ∷ 154 ∷ []))) (Fixed 0)
+    ∷ row (129 ∷ 138 ∷ 141 ∷ 142 ∷ 147 ∷ 150 ∷ 151 ∷ 155 ∷ 158 ∷ []) (Fixed 1)
+    ∷ row (156 ∷ 157 ∷ []) (Fixed 2)
+    ∷ row (139 ∷ 144 ∷ []) (Fixed 3)
+    ∷ row (137 ∷ 145 ∷ []) (Fixed 4)
+    ∷ row (140 ∷ []) Song
+    ∷ row (148 ∷ 149 ∷ 152 ∷ []) Counted
+    ∷ []
+
+-- what the rows say of an opcode
+abbrev pub look : List Row → ℕ → Length
+look [] op = Unknown
+look (r ∷ rs) op = cond (among (r .opcodes) op) (r .length) (look rs op)
+
+unfoldable pub dataLength : ℕ → Length
+dataLength op = look frameTable op
+
+-- the bytes of a frame up to the one that gives its length: the opcode, and a count byte with what stands before it
+abbrev pub headerSize : Length → ℕ
+headerSize (Fixed n) = 1
+headerSize Counted = 2
+headerSize Song = 3
+headerSize Unknown = 1

@@ -1,0 +1,5 @@
+pub mod FrameTable
+pub mod Push
+pub mod Reach
+pub mod RunTable
+pub mod Cut

@@ -1,0 +1,88 @@
+-- One byte, pushed onto the partial frame (document 01: the held frame). A frame is its header, the bytes up to the one that gives
+-- its length, and its body, the data bytes after that.
+-- Assumes nothing.
+use Prim.Native.Nat.{ℕ, _+_, _-_, _*_}
+use mathlib.Core.Bool.{Bool, true, false, not, cond, _&&_}
+use mathlib.Core.List.{List, [], _∷_}
+use lib.Dec.{leb, ltb, eqb}
+use lib.ListN.{getD, set, replicate}
+use Rattle.frame.specs.FrameTable.{dataLength, headerSize}
+use Rattle.frame.specs.declared.Length.{Length}
+use Rattle.frame.specs.declared.Length.the-variants.{Fixed, Counted, Song, Unknown}
+use Rattle.frame.specs.declared.Partial.{Partial}
+use Rattle.frame.specs.declared.Pushed.{Pushed}
+
+-- ---- the parts of a frame, by its first bytes
+
+-- the body's size, once the header is stored: document 01's 1 + N and 2 + 2L, less the header
+abbrev pub bodySizeAs : Length → List ℕ → ℕ
+bodySizeAs (Fixed n) bytes = n
+bodySizeAs Counted bytes = getD bytes 1 0
+bodySizeAs Song bytes = 2 * getD bytes 2 0
+bodySizeAs Unknown bytes = 0
+
+-- whether the body is stored: not past a legal count, and not in a 152
+abbrev pub storesBodyAs : Length → List ℕ → Bool
+storesBodyAs (Fixed n) bytes = true
+storesBodyAs Counted bytes = not (eqb (getD bytes 0 0) 152) && leb (getD bytes 1 0) 16
+storesBodyAs Song bytes = leb (getD bytes 2 0) 16
+storesBodyAs Unknown bytes = true
+
+abbrev pub lengthOf : List ℕ → Length
+lengthOf bytes = dataLength (getD bytes 0 0)
+
+abbrev pub headerOf : List ℕ → ℕ
+headerOf bytes = headerSize (lengthOf bytes)
+
+abbrev pub bodySize : List ℕ → ℕ
+bodySize bytes = bodySizeAs (lengthOf bytes) bytes
+
+abbrev pub storesBody : List ℕ → Bool
+storesBody bytes = storesBodyAs (lengthOf bytes) bytes
+
+-- ---- a byte
+
+-- the frame with one byte more; a full one, which no list of bytes leaves, stays as it is
+abbrev pub appendOf : Partial → ℕ → Partial
+appendOf p b = cond (leb 35 (p .count)) p (record { bytes = set (p .bytes) (p .count) b; count = p .count + 1; remaining = p .remaining })
+
+-- a frame whose length was not known: it waits on, or its header is complete now, and so is the frame where its body is empty
+abbrev pub measureOf : Partial → Pushed
+measureOf p =
+    cond (ltb (p .count) (headerOf (p .bytes)))
+    (record { partial = p; complete = false })
+    (record { partial = record { bytes = p .bytes; count = p .count; remaining = bodySize (p .bytes) }; complete = eqb (bodySize (p .bytes)) 0 })
+
+-- one byte of the body: taken in every case, and stored where the body is
+abbrev pub bodyByteOf : Partial → ℕ → Pushed
+bodyByteOf p b =
+    let q = cond (storesBody (p .bytes)) (appendOf p b) p in
+    record { partial = record { bytes = q .bytes; count = q .count; remaining = p .remaining - 1 }; complete = eqb (p .remaining) 1 }
+
+-- while nothing is known to remain the byte is an opcode or another byte of the header; else it is one of the body
+abbrev pub pushOf : Partial → ℕ → Pushed
+pushOf p b = cond (eqb (p .remaining) 0) (measureOf (appendOf p b)) (bodyByteOf p b)
+
+-- ---- bytes, one after the other
+
+-- nothing is stored (document 01: nothing is held)
+abbrev pub emptyPartial : Partial
+emptyPartial = record { bytes = replicate 35 0; count = 0; remaining = 0 }
+
+-- what is left between two bytes: empty, where the byte completed a frame
+unfoldable pub nextOf : Partial → ℕ → Partial
+nextOf p b = cond (pushOf p b .complete) emptyPartial (pushOf p b .partial)
+
+-- what a list of bytes leaves
+abbrev pub afterOf : Partial → List ℕ → Partial
+afterOf p [] = p
+afterOf p (b ∷ bs) = afterOf (nextOf p b) bs
+
+-- a byte that comes now begins a frame: it is read as an opcode
+abbrev pub beginsFrame : Partial → Bool
+beginsFrame p = eqb (p .remaining) 0 && eqb (p .count) 0
+
+-- which bytes of a list are read as opcodes, by the cut alone
+abbrev pub opcodes : Partial → List ℕ → List Bool
+opcodes p [] = []
+opcodes p (b ∷ bs) = beginsFrame p ∷ opcodes (nextOf p b) bs

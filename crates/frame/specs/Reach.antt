@@ -1,0 +1,33 @@
+-- The partial frames that the frame table can leave between two bytes (document 01, 'Bad record').
+-- Assumes nothing.
+use Prim.Native.Nat.{_-_}
+use mathlib.Core.Bool.{Bool, not, cond, _&&_}
+use lib.Dec.{leb, ltb, eqb}
+use lib.ListN.{drop}
+use Rattle.wire.specs.Lists.{allZero, byteArray}
+use Rattle.frame.specs.Push.{headerOf, bodySize, storesBody}
+use Rattle.frame.specs.declared.Partial.{Partial}
+
+-- true of every value of the type: 35 places, each a byte
+abbrev pub isArray : Partial → Bool
+isArray p = byteArray 35 (p .bytes)
+
+-- a place not in use is 0
+abbrev pub unusedZero : Partial → Bool
+unusedZero p = allZero (drop (p .count) (p .bytes))
+
+-- the bytes that remain are some of the body's; those that came are stored where the body is, and else the header alone is
+abbrev pub bodyBegun : Partial → Bool
+bodyBegun p =
+    not (eqb (p .remaining) 0)
+    && (leb (p .remaining) (bodySize (p .bytes))
+    && cond (storesBody (p .bytes))
+    (eqb (p .count - headerOf (p .bytes)) (bodySize (p .bytes) - p .remaining))
+    (eqb (p .count) (headerOf (p .bytes))))
+
+-- the number remaining is 0 while nothing is stored or the length isn't known
+abbrev pub remainingRight : Partial → Bool
+remainingRight p = cond (ltb (p .count) (headerOf (p .bytes))) (eqb (p .remaining) 0) (bodyBegun p)
+
+unfoldable pub reachableOf : Partial → Bool
+reachableOf p = isArray p && (unusedZero p && remainingRight p)

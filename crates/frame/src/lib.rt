@@ -1,0 +1,214 @@
+// Cuts a serial byte stream into frames: an opcode and its data bytes (document 01, 'Cutting bytes into frames').
+// The cut knows nothing of modes, and nothing of whether the command will be refused.
+ghost use mathlib.Core.Path.{_≡_};
+ghost use lib.ListN.{drop};
+ghost use Rattle.wire.specs.Lists.{allZero};
+ghost use Rattle.frame.specs.FrameTable.{dataLength, headerSize};
+ghost use Rattle.frame.specs.Push.{bodySize, storesBody, appendOf, measureOf, pushOf, emptyPartial, nextOf};
+ghost use Rattle.frame.specs.Reach.{reachableOf};
+
+// How many data bytes follow an opcode.
+pub enum Length {
+    // A number that the opcode alone gives.
+    Fixed(usize),
+    // A count byte N, and N bytes.
+    Counted,
+    // A song number, a count byte L, and 2L bytes.
+    Song,
+    // An opcode that is not in the frame table: no data bytes.
+    Unknown,
+}
+
+// A partial frame (document 01: the held frame): the bytes stored, their number, and how many bytes remain (document 01: are
+// owed). Empty where count is 0; remaining is 0 while the length is not known.
+#[repr(C)]
+pub struct Partial {
+    pub bytes: [u8; 35],
+    pub count: usize,
+    pub remaining: usize,
+}
+
+// What a byte leaves; complete where it was the frame's last.
+pub struct Pushed {
+    pub partial: Partial,
+    pub complete: bool,
+}
+
+// The one place where framing is decided.
+pub fn data_length(op: u8) -> Length
+    ensures { λ r. ⌜ r ≡ dataLength op ⌝ }
+{
+    match op {
+        128 | 130..=136 | 143 | 153 | 154 => Length::Fixed(0),
+        129 | 138 | 141 | 142 | 147 | 150 | 151 | 155 | 158 => Length::Fixed(1),
+        156 | 157 => Length::Fixed(2),
+        139 | 144 => Length::Fixed(3),
+        137 | 145 => Length::Fixed(4),
+        140 => Length::Song,
+        148 | 149 | 152 => Length::Counted,
+        _ => Length::Unknown,
+    }
+}
+
+// The bytes up to the one that gives the length, the opcode among them.
+fn header_size(op: u8) -> usize
+    ensures { λ r. ⌜ r ≡ headerSize (dataLength op) ⌝ }
+{
+    match data_length(op) {
+        Length::Fixed(_) => 1,
+        Length::Counted => 2,
+        Length::Song => 3,
+        Length::Unknown => 1,
+    }
+}
+
+// The data bytes after the header, once that is stored.
+fn body_size(bytes: [u8; 35]) -> usize
+    ensures { λ r. ⌜ r ≡ bodySize bytes ⌝ }
+{
+    match data_length(bytes[0]) {
+        Length::Fixed(n) => n,
+        Length::Counted => bytes[1] as usize,
+        Length::Song => 2 * (bytes[2] as usize),
+        Length::Unknown => 0,
+    }
+}
+
+// Whether those are stored: not past a legal count, and not in a 152.
+fn stores_body(bytes: [u8; 35]) -> bool
+    ensures { λ r. ⌜ r ≡ storesBody bytes ⌝ }
+{
+    let op = bytes[0];
+    match data_length(op) {
+        Length::Fixed(_) => true,
+        Length::Counted => op != 152 && bytes[1] <= 16,
+        Length::Song => bytes[2] <= 16,
+        Length::Unknown => true,
+    }
+}
+
+// The frame with one byte more; a full one, which no list of bytes leaves, stays as it is.
+fn append(p: Partial, b: u8) -> Partial
+    ensures { λ r. ⌜ r ≡ appendOf p b ⌝ }
+{
+    let at = p.count;
+    if 35 <= at {
+        return p;
+    }
+    let mut q = p;
+    q.bytes[at] = b;
+    q.count = at + 1;
+    q
+}
+
+// A frame whose length was not known: what remains, if its header is complete now.
+fn measure(p: Partial) -> Pushed
+    ensures { λ r. ⌜ r ≡ measureOf p ⌝ }
+{
+    let bytes = p.bytes;
+    let op = bytes[0];
+    if p.count < header_size(op) {
+        return Pushed {
+            partial: p,
+            complete: false,
+        };
+    }
+    let remaining = body_size(bytes);
+    let count = p.count;
+    Pushed {
+        partial: Partial {
+            bytes,
+            count,
+            remaining,
+        },
+        complete: remaining == 0,
+    }
+}
+
+// One byte, taken by the partial frame; a complete frame comes back as it is stored, with 0 remaining. What is given on a frame that
+// is not reachable is free in the papers: it is what the same definition says there, with no place past the 35 written.
+pub fn push(p: Partial, b: u8) -> Pushed
+    ensures { λ r. ⌜ r ≡ pushOf p b ⌝ }
+{
+    let remaining = p.remaining;
+    if remaining == 0 {
+        return measure(append(p, b));
+    }
+    let bytes = p.bytes;
+    let q = if stores_body(bytes) { append(p, b) } else { p };
+    let bytes = q.bytes;
+    let count = q.count;
+    Pushed {
+        partial: Partial {
+            bytes,
+            count,
+            remaining: remaining - 1,
+        },
+        complete: remaining == 1,
+    }
+}
+
+// Nothing is read yet.
+pub fn empty() -> Partial
+    ensures { λ r. ⌜ r ≡ emptyPartial ⌝ }
+{
+    Partial {
+        bytes: [0u8; 35],
+        count: 0,
+        remaining: 0,
+    }
+}
+
+// What is left between two bytes: a frame that the byte completes is done with.
+pub fn next(p: Partial, b: u8) -> Partial
+    ensures { λ r. ⌜ r ≡ nextOf p b ⌝ }
+{
+    let pushed = push(p, b);
+    if pushed.complete {
+        return empty();
+    }
+    pushed.partial
+}
+
+// Whether the places from an index on are 0.
+fn clear_from(bytes: [u8; 35], from: usize) -> bool
+    ensures { λ r. ⌜ r ≡ allZero (drop from bytes) ⌝ }
+{
+    let mut i = from;
+    while i < 35 {
+        if bytes[i] != 0 {
+            return false;
+        }
+        i += 1;
+    }
+    true
+}
+
+// Whether the frame table can leave this frame between two bytes.
+pub fn reachable(p: Partial) -> bool
+    ensures { λ r. ⌜ r ≡ reachableOf p ⌝ }
+{
+    let bytes = p.bytes;
+    let count = p.count;
+    let remaining = p.remaining;
+    if !clear_from(bytes, count) {
+        return false;
+    }
+    let op = bytes[0];
+    let header = header_size(op);
+    if count < header {
+        return remaining == 0;
+    }
+    if remaining == 0 {
+        return false;
+    }
+    let body = body_size(bytes);
+    if body < remaining {
+        return false;
+    }
+    if stores_body(bytes) {
+        count - header == body - remaining
+    } else {
+        count == header
+    }
+}

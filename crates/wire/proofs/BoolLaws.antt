@@ -1,0 +1,46 @@
+-- Bool tests as facts. The library has those on `&&`, `||` and `not` (`mir.Facts`), and on the tests of numbers (`borrow.Author.Tests`).
+-- Assumes nothing.
+use mathlib.Core.Path.{_≡_, refl, sym, subst}
+use mathlib.Core.Bool.{Bool, true, false, not, cond, _||_}
+use mathlib.Core.Logic.{_⊎_, inl, inr}
+use Prim.Native.Nat.{ℕ, zero, suc, _≤_, _<_, zero-le, suc-le-suc}
+use lib.Dec.{T, leb, eqb}
+use borrow.Author.Tests.{leb-true, leb-false}
+
+pub is-true : (b : Bool) → T b → b ≡ true
+is-true true t = refl
+is-true false t = absurd t
+
+pub to-T : (b : Bool) → b ≡ true → T b
+to-T b e = subst T (sym e) tt
+
+-- a test that asks b only where a passes
+pub implied : (a b : Bool) → T (not a || b) → T a → T b
+implied true b t h = t
+implied false b t h = absurd h
+
+-- ---- cond
+
+pub cond-true {ℓ} : {A : Type ℓ} (b : Bool) (x y : A) → b ≡ true → cond b x y ≡ x
+cond-true b x y e = rw e
+
+pub cond-false {ℓ} : {A : Type ℓ} (b : Bool) (x y : A) → b ≡ false → cond b x y ≡ y
+cond-false b x y e = rw e
+
+-- what a `cond` of tests asks, by the first test's value
+pub cond-cases : (a b c : Bool) → T (cond a b c) → ((a ≡ true) × T b) ⊎ ((a ≡ false) × T c)
+cond-cases true b c t = inl (refl, t)
+cond-cases false b c t = inr (refl, t)
+
+-- ---- numbers
+
+pub le-or-lt : (a b : ℕ) → (a ≤ b) ⊎ (b < a)
+le-or-lt a b = go (leb a b) refl
+  where
+    go : (t : Bool) → leb a b ≡ t → (a ≤ b) ⊎ (b < a)
+    go true e = inl (leb-true a b e)
+    go false e = inr (leb-false a b e)
+
+pub not-zero : (n : ℕ) → eqb n 0 ≡ false → 0 < n
+not-zero zero e = absurd (subst T e tt)
+not-zero (suc n) e = suc-le-suc zero-le

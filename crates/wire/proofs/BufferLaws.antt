@@ -1,0 +1,84 @@
+-- Laws of bytes in a lent buffer.
+-- Assumes nothing.
+use mathlib.Core.Path.{_≡_, refl, sym, ap, _∙_}
+use mathlib.Core.List.{List, [], _∷_, _++_, append-assoc}
+use Prim.Native.Nat.{ℕ, _+_, _≤_, _<_}
+use native.Mathlib.Nat.{zero-add, add-zero, add-assoc}
+use native.Mathlib.Numerals.{add-one}
+use native.Mathlib.Omega.{arith}
+use lib.ListN.{length, take, drop, set, length-append, length-take, length-drop, take-append-drop}
+use lib.Seq.{set-split, take-at, drop-append-add, length-take-le, drop-drop}
+use Rattle.wire.specs.Buffer.{overwrite, placed, Put}
+
+-- ---- overwrite
+
+pub overwrite-nil : (d : List ℕ) → overwrite [] d ≡ d
+unfolding overwrite
+overwrite-nil d = refl
+
+pub length-overwrite : (a d : List ℕ) → length a ≤ length d → length (overwrite a d) ≡ length d
+unfolding overwrite
+length-overwrite a d h = simp (length-append, length-drop) (omega arith)
+
+-- ---- placed
+
+pub length-placed : (a : List ℕ) (i : ℕ) (d : List ℕ) → i + length a ≤ length d → length (placed a i d) ≡ length d
+unfolding placed
+length-placed a i d h = simp (length-append, length-take, length-drop) (omega arith)
+
+pub placed-nil : (i : ℕ) (d : List ℕ) → placed [] i d ≡ d
+unfolding placed
+placed-nil i d = rw add-zero (take-append-drop i d)
+
+pub placed-one : (v i : ℕ) (d : List ℕ) → i < length d → set d i v ≡ placed (v ∷ []) i d
+unfolding placed
+placed-one v i d h = rw add-one (set-split d i v h)
+
+pub placed-append : (a b : List ℕ) (i : ℕ) (d : List ℕ) → i + length a ≤ length d → placed b (i + length a) (placed a i d) ≡ placed (a ++ b) i d
+unfolding placed
+placed-append a b i d h =
+    let p : List ℕ = take i d ++ a in
+    let q : List ℕ = drop (i + length a) d in
+    let e : length p ≡ i + length a = length-append (take i d) a ∙ ap (λ (k : ℕ). k + length a) (length-take-le i d (omega arith)) in
+    let t : take (i + length a) (p ++ q) ≡ p = take-at p q (i + length a) e in
+    let u : drop (i + length a + length b) (p ++ q) ≡ drop (i + length a + length b) d =
+    ap (λ (k : ℕ). drop (k + length b) (p ++ q)) (sym e) ∙ drop-append-add p q (length b) ∙ drop-drop (length b) (i + length a) d in
+    rw (← append-assoc (take i d) a q, t, u, length-append a b, ← add-assoc i (length a) (length b), append-assoc a b _, append-assoc (take i d) a _) refl
+
+pub placed-start : (a d : List ℕ) → placed a 0 d ≡ overwrite a d
+unfolding placed overwrite
+placed-start a d = ap (λ (k : ℕ). a ++ drop k d) (zero-add (length a))
+
+-- ---- Put
+
+pub put-none : (i : ℕ) (d : List ℕ) → Put [] i d d i
+put-none i d = record { next = sym (add-zero i); bytes = sym (placed-nil i d) }
+
+pub put-one : (v i : ℕ) (d : List ℕ) → i < length d → Put (v ∷ []) i d (set d i v) (i + 1)
+put-one v i d h = record { next = refl; bytes = placed-one v i d h }
+
+pub put-room : (a b : List ℕ) (i n : ℕ) → i + length (a ++ b) ≤ n → i + length a ≤ n
+put-room a b i n h = omega (arith, length-append a b)
+
+-- one after the other
+pub put-then : {a b d d′ d″ : List ℕ} {i r s : ℕ} → Put a i d d′ r → Put b r d′ d″ s → i + length a ≤ length d → Put (a ++ b) i d d″ s
+put-then {a} {b} {d} {d′} {d″} {i} {r} {s} x y h =
+    record {
+      next = omega (arith, x .next, y .next, length-append a b);
+      bytes = y .bytes ∙ ap (λ (k : ℕ). placed b k d′) (x .next) ∙ ap (λ (l : List ℕ). placed b (i + length a) l) (x .bytes) ∙ placed-append a b i d h;
+    }
+
+pub put-length : {a d d′ : List ℕ} {i r : ℕ} → Put a i d d′ r → i + length a ≤ length d → length d′ ≡ length d
+put-length {a} {d} {d′} {i} x h = ap length (x .bytes) ∙ length-placed a i d h
+
+pub put-start : {a d d′ : List ℕ} {r : ℕ} → Put a 0 d d′ r → d′ ≡ overwrite a d
+put-start {a} {d} x = x .bytes ∙ placed-start a d
+
+-- a turn of a loop that writes: of what is left, a ++ b, the turn writes a; `Done` says what the whole is once what is left is written
+pub put-turn : {a b d d′ : List ℕ} {i j : ℕ} (Done : List ℕ → ℕ → Type 0) → Put a i d d′ j → i + length (a ++ b) ≤ length d
+    → ((e : List ℕ) (r : ℕ) → Put (a ++ b) i d e r → Done e r)
+    → (length d′ ≡ length d) × ((j + length b ≤ length d′) × ((e : List ℕ) (r : ℕ) → Put b j d′ e r → Done e r))
+put-turn {a} {b} {d} {d′} {i} {j} Done x h k =
+    let room = put-room a b i (length d) h in
+    let l : length d′ ≡ length d = put-length x room in
+    (l, (omega (arith, x .next, length-append a b), λ e r y. k e r (put-then x y room)))

@@ -1,0 +1,5 @@
+pub mod BoolLaws
+pub mod ListsLaws
+pub mod MatchLaws
+pub mod SixteenLaws
+pub mod BufferLaws

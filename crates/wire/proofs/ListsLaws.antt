@@ -1,0 +1,89 @@
+-- Laws of the tests over lists.
+-- Assumes nothing.
+use mathlib.Core.Path.{_≡_, refl, ap, subst, _∙_}
+use mathlib.Core.Bool.{Bool, true, _&&_}
+use mathlib.Core.List.{List, [], _∷_, _++_}
+use mathlib.Core.Logic.{⊎-elim}
+use Prim.Native.Nat.{ℕ, zero, suc, _+_, _≤_, _<_, zero-le}
+use native.Mathlib.Nat.{eq-or-lt-of-le}
+use native.Mathlib.Numerals.{add-one}
+use native.Mathlib.Omega.{arith}
+use lib.Dec.{T, eqb, eqb→eq, ltb→lt, leb, leb→le}
+use lib.ListN.{length, getD, set, drop, replicate}
+use lib.Seq.{drop-cons}
+use mir.Facts.{and-yes, yes-and, yes-ltb}
+use borrow.Author.Tests.{lt-ltb}
+use Rattle.wire.specs.Lists.{all, allFrom, isZero, isByte, allZero, allBytes}
+
+-- ---- lists from an index on
+
+pub drop-next : (l : List ℕ) (i : ℕ) → i < length l → drop i l ≡ getD l i 0 ∷ drop (i + 1) l
+drop-next l i h = rw add-one (drop-cons l i 0 h)
+
+-- ---- all
+
+pub all-at {ℓ} : {A : Type ℓ} (f : A → Bool) (d : A) (l : List A) (i : ℕ) → i < length l → T (all f l) → T (f (getD l i d))
+all-at f d [] i h t = absurd (omega arith)
+all-at f d (x ∷ xs) zero h t = and-yes (f x) (all f xs) t .0
+all-at f d (x ∷ xs) (suc i) h t = all-at f d xs i (omega arith) (and-yes (f x) (all f xs) t .1)
+
+module _ (f : ℕ → Bool) where
+  pub all-set : (l : List ℕ) (i b : ℕ) → T (all f l) → T (f b) → T (all f (set l i b))
+  all-set [] i b t u = tt
+  all-set (x ∷ xs) zero b t u = yes-and (f b) (all f xs) u (and-yes (f x) (all f xs) t .1)
+  all-set (x ∷ xs) (suc i) b t u =
+      let s = and-yes (f x) (all f xs) t in
+      yes-and (f x) (all f (set xs i b)) (s .0) (all-set xs i b (s .1) u)
+
+  pub all-append : (l m : List ℕ) → T (all f l) → T (all f m) → T (all f (l ++ m))
+  all-append [] m t u = u
+  all-append (x ∷ xs) m t u =
+      let s = and-yes (f x) (all f xs) t in
+      yes-and (f x) (all f (xs ++ m)) (s .0) (all-append xs m (s .1) u)
+
+  -- one turn of a loop that tests the elements from i on
+  pub all-next : (l : List ℕ) (i : ℕ) → i < length l → all f (drop i l) ≡ (f (getD l i 0) && all f (drop (i + 1) l))
+  all-next l i h = ap (all f) (drop-next l i h)
+
+  pub all-later : (l : List ℕ) (i : ℕ) → i < length l → T (all f (drop i l)) → T (all f (drop (i + 1) l))
+  all-later l i h t = and-yes (f (getD l i 0)) (all f (drop (i + 1) l)) (rw (all-next l i h) at t) .1
+
+-- ---- allFrom: from the computed test to the rule at each number
+
+pub from : (f : ℕ → Bool) (lo n : ℕ) → T (allFrom f lo n) → (k : ℕ) → lo ≤ k → k < lo + n → T (f k)
+from f lo zero t k a b = absurd (omega arith)
+from f lo (suc n) t k a b =
+    let s = and-yes (f lo) (allFrom f (suc lo) n) t in
+    ⊎-elim (λ (e : lo ≡ k). subst (λ (m : ℕ). T (f m)) e (s .0)) (λ (h : lo < k). from f (suc lo) n (s .1) k h (omega arith))
+    (eq-or-lt-of-le a)
+
+-- a table whose entries are a function's values
+pub table : (f : ℕ → ℕ) (xs : List ℕ) → T (allFrom (λ k. eqb (getD xs k 0) (f k)) 0 (length xs)) → (k : ℕ) → k < length xs → getD xs k 0 ≡ f k
+table f xs t k h = eqb→eq (getD xs k 0) (f k) (from (λ k. eqb (getD xs k 0) (f k)) 0 (length xs) t k zero-le (omega arith))
+
+-- a table whose entries are at most m
+pub table-le : (m : ℕ) (xs : List ℕ) → T (all (λ x. leb x m) xs) → (k : ℕ) → getD xs k 0 ≤ m
+table-le m [] t k = zero-le
+table-le m (x ∷ xs) t zero = leb→le x m (and-yes (leb x m) (all (λ x. leb x m) xs) t .0)
+table-le m (x ∷ xs) t (suc k) = table-le m xs (and-yes (leb x m) (all (λ x. leb x m) xs) t .1) k
+
+-- ---- bytes and zeros
+
+pub byte-at : (l : List ℕ) → T (allBytes l) → (i : ℕ) → getD l i 0 < 256
+byte-at [] t i = omega arith
+byte-at (x ∷ xs) t zero = ltb→lt x 256 (and-yes (isByte x) (allBytes xs) t .0)
+byte-at (x ∷ xs) t (suc i) = byte-at xs (and-yes (isByte x) (allBytes xs) t .1) i
+
+-- the test of an array that the code holds, whose elements are bytes by their type
+pub bytes-true : (l : List ℕ) → ((i : ℕ) → getD l i 0 < 256) → allBytes l ≡ true
+bytes-true [] h = refl
+bytes-true (x ∷ xs) h = simp (lt-ltb x 256 (h 0), bytes-true xs (λ i. h (suc i)))
+
+pub bytes-set : (l : List ℕ) (i b : ℕ) → T (allBytes l) → b < 256 → T (allBytes (set l i b))
+bytes-set l i b t h = all-set isByte l i b t (yes-ltb h)
+
+pub zeros-are : (l : List ℕ) → T (allZero l) → l ≡ replicate (length l) 0
+zeros-are [] t = refl
+zeros-are (x ∷ xs) t =
+    let s = and-yes (isZero x) (allZero xs) t in
+    ap (λ (n : ℕ). n ∷ xs) (eqb→eq x 0 (s .0)) ∙ ap (λ (l : List ℕ). 0 ∷ l) (zeros-are xs (s .1))

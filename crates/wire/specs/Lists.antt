@@ -1,0 +1,49 @@
+-- Tests over lists of numbers: every element, the numbers of a range, bytes.
+-- Assumes nothing.
+use Prim.Native.Nat.{ℕ, zero, suc}
+use mathlib.Core.Bool.{Bool, true, false, _&&_, _||_}
+use mathlib.Core.List.{List, [], _∷_}
+use lib.Dec.{leb, ltb, eqb}
+use lib.ListN.{length}
+
+-- the test passes at every element
+abbrev pub all {ℓ} : {A : Type ℓ} → (A → Bool) → List A → Bool
+all f [] = true
+all f (x ∷ xs) = f x && all f xs
+
+-- the test passes at the n numbers from lo: a table's rule, computed once over the whole table
+abbrev pub allFrom : (ℕ → Bool) → ℕ → ℕ → Bool
+allFrom f lo zero = true
+allFrom f lo (suc n) = f lo && allFrom f (suc lo) n
+
+-- the n numbers from a on
+abbrev pub span : ℕ → ℕ → List ℕ
+span a zero = []
+span a (suc n) = a ∷ span (suc a) n
+
+-- k is one of the list's numbers
+abbrev pub among : List ℕ → ℕ → Bool
+among [] k = false
+among (x ∷ xs) k = eqb k x || among xs k
+
+-- k is from lo to hi
+abbrev pub within : ℕ → ℕ → ℕ → Bool
+within lo hi k = leb lo k && leb k hi
+
+abbrev pub isZero : ℕ → Bool
+isZero x = eqb x 0
+
+abbrev pub isByte : ℕ → Bool
+isByte x = ltb x 256
+
+-- every number is 0
+abbrev pub allZero : List ℕ → Bool
+allZero = all isZero
+
+-- every number is a byte
+abbrev pub allBytes : List ℕ → Bool
+allBytes = all isByte
+
+-- the list is a value of [u8; n]
+abbrev pub byteArray : ℕ → List ℕ → Bool
+byteArray n l = eqb (length l) n && allBytes l

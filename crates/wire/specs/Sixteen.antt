@@ -1,0 +1,42 @@
+-- Sixteen-bit numbers: two's complement, high byte first (document 01, under 'Commands at their last byte').
+-- Assumes nothing.
+use Prim.Native.Nat.{ℕ, _+_, _-_, _*_, _/_, _%_, _<_}
+use mathlib.Core.Path.{_≡_}
+use mathlib.Core.Bool.{cond}
+use mathlib.Core.List.{List, [], _∷_}
+use lib.Dec.{ltb}
+use lib.IntN.{ℤ, pos, negsuc}
+use mir.Syntax.{w16}
+use mir.Val.{SFits}
+
+-- the sixteen bits of a number, read without a sign; negsuc n is -(n + 1)
+abbrev pub bits16Of : ℤ → ℕ
+bits16Of (pos n) = n
+bits16Of (negsuc n) = 65535 - n
+
+abbrev pub high16Of : ℤ → ℕ
+high16Of v = bits16Of v / 256
+
+abbrev pub low16Of : ℤ → ℕ
+low16Of v = bits16Of v % 256
+
+-- a number's two bytes, in the order in which they are sent
+abbrev pub be16 : ℤ → List ℕ
+be16 v = high16Of v ∷ low16Of v ∷ []
+
+-- the number whose sixteen bits are n
+abbrev pub signed16 : ℕ → ℤ
+signed16 n = cond (ltb n 32768) (pos n) (negsuc (65535 - n))
+
+-- the number that two bytes say
+unfoldable pub read16Of : ℕ → ℕ → ℤ
+read16Of hi lo = signed16 (hi * 256 + lo)
+
+-- THEOREM: what is written is read back, and what is read is written back, for every value of i16 and all bytes
+pub record RoundTrip16 : Type 0 where
+  pub read-written : (v : ℤ) → SFits w16 v → read16Of (high16Of v) (low16Of v) ≡ v
+  pub written-read : (hi lo : ℕ) → hi < 256 → lo < 256 → be16 (read16Of hi lo) ≡ hi ∷ lo ∷ []
+  -- both bytes are bytes, and the number is one of i16
+  pub high-byte : (v : ℤ) → SFits w16 v → high16Of v < 256
+  pub low-byte : (v : ℤ) → low16Of v < 256
+  pub read-fits : (hi lo : ℕ) → hi < 256 → lo < 256 → SFits w16 (read16Of hi lo)
