@@ -1,1 +1,6 @@
 pub mod FrameTableLaws
+pub mod PushLaws
+pub mod ReachLaws
+pub mod Reached
+pub mod RunTableLaws
+pub mod CutProved

@@ -1,0 +1,186 @@
+-- Laws of the parts of a frame, of a byte pushed, and of bytes one after the other.
+-- Assumes nothing.
+use mathlib.Core.Path.{_≡_, refl, sym, ap, _∙_}
+use mathlib.Core.Bool.{true, false, not}
+use mathlib.Core.List.{List, [], _∷_, _++_}
+use mathlib.Core.Logic.{⊎-elim}
+use Prim.Native.Nat.{ℕ, zero, suc, _+_, _-_, _*_, _≤_, _<_}
+use native.Mathlib.Omega.{arith}
+use native.Mathlib.Nat.{eq-zero-or-pos, eq-or-lt-of-le}
+use lib.Dec.{T, leb, eqb, leb→le, leb·zero, leb·suc-suc}
+use lib.ListN.{length, getD, set}
+use lib.Seq.{getD-set-other}
+use mir.Facts.{and-yes}
+use borrow.Author.Tests.{le-leb, lt-leb, lt-ltb, le-ltb, eq-eqb, ne-eqb}
+use Rattle.wire.specs.Lists.{allBytes}
+use Rattle.wire.proofs.BoolLaws.{to-T, cond-true, cond-false}
+use Rattle.wire.proofs.ListsLaws.{byte-at}
+use Rattle.frame.specs.FrameTable.{dataLength, headerSize}
+use Rattle.frame.specs.Push.{bodySizeAs, storesBodyAs, lengthOf, headerOf, bodySize, storesBody, measureOf, bodyByteOf, pushOf, emptyPartial, nextOf, afterOf, beginsFrame, opcodes}
+use Rattle.frame.specs.declared.Length.{Length}
+use Rattle.frame.specs.declared.Length.the-variants.{Fixed, Counted, Song, Unknown}
+use Rattle.frame.specs.declared.Partial.{Partial}
+use Rattle.frame.specs.declared.Pushed.{Pushed}
+use Rattle.frame.proofs.FrameTableLaws.{code, fixed-small}
+
+-- ---- header and body: the header is 1 to 3 bytes, the body at most 510, and a body that is stored has room
+
+pub header-pos : (l : Length) → 0 < headerSize l
+header-pos (Fixed n) = omega arith
+header-pos Counted = omega arith
+header-pos Song = omega arith
+header-pos Unknown = omega arith
+
+pub header-le : (l : Length) → headerSize l ≤ 3
+header-le (Fixed n) = omega arith
+header-le Counted = omega arith
+header-le Song = omega arith
+header-le Unknown = omega arith
+
+body-as-le : (l : Length) (bs : List ℕ) → T (leb (code l) (code (Fixed 4))) → getD bs 1 0 < 256 → getD bs 2 0 < 256 → bodySizeAs l bs ≤ 510
+body-as-le (Fixed n) bs t p q = let h : suc (suc (suc n)) ≤ 7 = leb→le (code (Fixed n)) 7 t in omega arith
+body-as-le Counted bs t p q = omega arith
+body-as-le Song bs t p q = omega arith
+body-as-le Unknown bs t p q = omega arith
+
+pub body-le : (bs : List ℕ) → T (allBytes bs) → bodySize bs ≤ 510
+body-le bs t = body-as-le (lengthOf bs) bs (fixed-small (getD bs 0 0) (byte-at bs t 0)) (byte-at bs t 1) (byte-at bs t 2)
+
+stored-as : (l : Length) (bs : List ℕ) → T (leb (code l) (code (Fixed 4))) → T (storesBodyAs l bs) → headerSize l + bodySizeAs l bs ≤ 35
+stored-as (Fixed n) bs t k = let h : suc (suc (suc n)) ≤ 7 = leb→le (code (Fixed n)) 7 t in omega arith
+stored-as Counted bs t k =
+    let h : getD bs 1 0 ≤ 16 = leb→le (getD bs 1 0) 16 (and-yes (not (eqb (getD bs 0 0) 152)) (leb (getD bs 1 0) 16) k .1) in
+    omega arith
+stored-as Song bs t k = let h : getD bs 2 0 ≤ 16 = leb→le (getD bs 2 0) 16 k in omega arith
+stored-as Unknown bs t k = omega arith
+
+pub stored-fits : (bs : List ℕ) → T (allBytes bs) → storesBody bs ≡ true → headerOf bs + bodySize bs ≤ 35
+stored-fits bs t k = stored-as (lengthOf bs) bs (fixed-small (getD bs 0 0) (byte-at bs t 0)) (to-T (storesBody bs) k)
+
+-- ---- a byte past the opcode leaves the opcode, and so the length; one past the header leaves the body
+
+pub opcode-set : (bs : List ℕ) (i b : ℕ) → 0 < i → getD (set bs i b) 0 0 ≡ getD bs 0 0
+opcode-set bs i b h = getD-set-other bs i 0 b 0 (λ (e : 0 ≡ i). omega arith)
+
+pub length-set : (bs : List ℕ) (i b : ℕ) → 0 < i → lengthOf (set bs i b) ≡ lengthOf bs
+length-set bs i b h = ap dataLength (opcode-set bs i b h)
+
+body-as-set : (l : Length) (bs : List ℕ) (i b : ℕ) → headerSize l ≤ i → bodySizeAs l (set bs i b) ≡ bodySizeAs l bs
+body-as-set (Fixed n) bs i b h = refl
+body-as-set Counted bs i b h = getD-set-other bs i 1 b 0 (λ (e : 1 ≡ i). omega arith)
+body-as-set Song bs i b h = ap (λ (n : ℕ). 2 * n) (getD-set-other bs i 2 b 0 (λ (e : 2 ≡ i). omega arith))
+body-as-set Unknown bs i b h = refl
+
+stores-as-set : (l : Length) (bs : List ℕ) (i b : ℕ) → headerSize l ≤ i → storesBodyAs l (set bs i b) ≡ storesBodyAs l bs
+stores-as-set (Fixed n) bs i b h = refl
+stores-as-set Counted bs i b h =
+    simp (getD-set-other bs i 0 b 0 (λ (e : 0 ≡ i). omega arith), getD-set-other bs i 1 b 0 (λ (e : 1 ≡ i). omega arith))
+stores-as-set Song bs i b h = simp (getD-set-other bs i 2 b 0 (λ (e : 2 ≡ i). omega arith))
+stores-as-set Unknown bs i b h = refl
+
+module _ (bs : List ℕ) (i b : ℕ) (h : headerOf bs ≤ i) where
+  past : 0 < i
+  past = let p = header-pos (lengthOf bs) in omega arith
+
+  pub header-set : headerOf (set bs i b) ≡ headerOf bs
+  header-set = ap headerSize (length-set bs i b past)
+
+  pub body-set : bodySize (set bs i b) ≡ bodySize bs
+  body-set = ap (λ (l : Length). bodySizeAs l (set bs i b)) (length-set bs i b past) ∙ body-as-set (lengthOf bs) bs i b h
+
+  pub stores-set : storesBody (set bs i b) ≡ storesBody bs
+  stores-set = ap (λ (l : Length). storesBodyAs l (set bs i b)) (length-set bs i b past) ∙ stores-as-set (lengthOf bs) bs i b h
+
+-- a byte of the header leaves at least itself in it
+pub header-grown : (bs : List ℕ) (n b : ℕ) → n < headerOf bs → n + 1 ≤ headerOf (set bs n b)
+header-grown bs n b a =
+    ⊎-elim (λ (e : n ≡ 0). let p = header-pos (lengthOf (set bs n b)) in omega arith) (λ (p : 0 < n). rw (length-set bs n b p) (omega arith))
+    (eq-zero-or-pos n)
+
+-- ---- push, one equation for each case
+
+pub partial-eq : (l m : List ℕ) (i j a b : ℕ) → l ≡ m → i ≡ j → a ≡ b
+    → _≡_ {A = Partial} (record { bytes = l; count = i; remaining = a }) (record { bytes = m; count = j; remaining = b })
+partial-eq l m i j a b p q r = rw (p, q, r)
+
+-- p with b stored, and n remaining
+abbrev pub grown : Partial → ℕ → ℕ → Partial
+grown p b n = record { bytes = set (p .bytes) (p .count) b; count = p .count + 1; remaining = n }
+
+pub measure-waits : (p : Partial) → p .count < headerOf (p .bytes) → measureOf p ≡ record { partial = p; complete = false }
+measure-waits p a = simp (lt-ltb _ _ a)
+
+pub measure-known : (p : Partial) → headerOf (p .bytes) ≤ p .count
+    → measureOf p ≡ record { partial = record { bytes = p .bytes; count = p .count; remaining = bodySize (p .bytes) }; complete = eqb (bodySize (p .bytes)) 0 }
+measure-known p a = simp (le-ltb _ _ a)
+
+pub push-header : (p : Partial) (b : ℕ) → p .remaining ≡ 0 → p .count < 35 → pushOf p b ≡ measureOf (grown p b (p .remaining))
+push-header p b e a = simp (eq-eqb _ _ e, lt-leb 35 (p .count) a)
+
+pub push-stored : (p : Partial) (b : ℕ) → 0 < p .remaining → storesBody (p .bytes) ≡ true → p .count < 35
+    → pushOf p b ≡ record { partial = grown p b (p .remaining - 1); complete = eqb (p .remaining) 1 }
+push-stored p b h k a = simp (ne-eqb (p .remaining) 0 (λ (e : p .remaining ≡ 0). omega arith), k, lt-leb 35 (p .count) a)
+
+pub push-skipped : (p : Partial) (b : ℕ) → 0 < p .remaining → storesBody (p .bytes) ≡ false
+    → pushOf p b ≡ record { partial = record { bytes = p .bytes; count = p .count; remaining = p .remaining - 1 }; complete = eqb (p .remaining) 1 }
+push-skipped p b h k = simp (ne-eqb (p .remaining) 0 (λ (e : p .remaining ≡ 0). omega arith), k)
+
+-- while bytes remain, of any partial frame: the byte is one of the body
+pub push-body : (p : Partial) (b : ℕ) → 0 < p .remaining → pushOf p b ≡ bodyByteOf p b
+push-body p b h = simp (ne-eqb (p .remaining) 0 (λ (e : p .remaining ≡ 0). omega arith))
+
+-- ---- next
+
+pub next-complete : (p : Partial) (b : ℕ) → pushOf p b .complete ≡ true → nextOf p b ≡ emptyPartial
+unfolding nextOf
+next-complete p b e = cond-true (pushOf p b .complete) emptyPartial (pushOf p b .partial) e
+
+pub next-more : (p : Partial) (b : ℕ) (r : Pushed) → pushOf p b ≡ r → r .complete ≡ false → nextOf p b ≡ r .partial
+unfolding nextOf
+next-more p b r e c =
+    cond-false (pushOf p b .complete) emptyPartial (pushOf p b .partial) (ap (λ (x : Pushed). x .complete) e ∙ c)
+    ∙ ap (λ (x : Pushed). x .partial) e
+
+pub next-last : (p : Partial) (b : ℕ) → p .remaining ≡ 1 → nextOf p b ≡ emptyPartial
+next-last p b e = next-complete p b (ap (λ (x : Pushed). x .complete) (push-body p b (omega arith)) ∙ eq-eqb _ _ e)
+
+pub next-remaining : (p : Partial) (b : ℕ) → 0 < p .remaining → nextOf p b .remaining ≡ p .remaining - 1
+next-remaining p b h =
+    ⊎-elim (λ (e : 1 ≡ p .remaining). ap (λ (q : Partial). q .remaining) (next-last p b (sym e)) ∙ omega arith)
+    (λ (m : 1 < p .remaining).
+    ap (λ (q : Partial). q .remaining)
+    (next-more p b (bodyByteOf p b) (push-body p b h) (ne-eqb (p .remaining) 1 (λ (e : p .remaining ≡ 1). omega arith))))
+    (eq-or-lt-of-le h)
+
+-- ---- after, opcodes
+
+pub after-append : (p : Partial) (bs cs : List ℕ) → afterOf p (bs ++ cs) ≡ afterOf (afterOf p bs) cs
+after-append p [] cs = refl
+after-append p (b ∷ bs) cs = after-append (nextOf p b) bs cs
+
+pub first-opcode : (p : Partial) (bs : List ℕ) → 0 < length bs → getD (opcodes p bs) 0 false ≡ beginsFrame p
+first-opcode p [] h = absurd (omega arith)
+first-opcode p (b ∷ bs) h = refl
+
+pub leb-pred : (m k : ℕ) → leb (m - 1) k ≡ leb m (suc k)
+leb-pred zero k = leb·zero k ∙ sym (leb·zero (suc k))
+leb-pred (suc m) k = let e : suc m - 1 ≡ m = omega arith in ap (λ (n : ℕ). leb n k) e ∙ sym (leb·suc-suc m k)
+
+-- while bytes remain none is read as an opcode, and the one after them is
+pub no-opcode-before : (bs : List ℕ) (p : Partial) (j : ℕ) → 0 < p .remaining → j ≤ p .remaining → j < length bs
+    → getD (opcodes p bs) j false ≡ leb (p .remaining) j
+no-opcode-before [] p j h a l = absurd (omega arith)
+no-opcode-before (b ∷ bs) p zero h a l =
+    simp (ne-eqb (p .remaining) 0 (λ (e : p .remaining ≡ 0). omega arith)) (sym (lt-leb (p .remaining) 0 h))
+no-opcode-before (b ∷ bs) p (suc j) h a l =
+    ⊎-elim (λ (e : 1 ≡ p .remaining).
+    let z : j ≡ 0 = omega arith in
+    ap (λ (k : ℕ). getD (opcodes (nextOf p b) bs) k false) z
+    ∙ first-opcode (nextOf p b) bs (omega arith)
+    ∙ ap beginsFrame (next-last p b (sym e))
+    ∙ sym (le-leb (p .remaining) (suc j) (omega arith)))
+    (λ (m : 1 < p .remaining).
+    let r = next-remaining p b h in
+    no-opcode-before bs (nextOf p b) j (omega arith) (omega arith) (omega arith)
+    ∙ ap (λ (n : ℕ). leb n j) r ∙ leb-pred (p .remaining) j)
+    (eq-or-lt-of-le h)
