@@ -1,6 +1,6 @@
 -- The theorems of specs/Cut.antt.
 -- Assumes nothing.
-use mathlib.Core.Path.{refl, _∙_}
+use mathlib.Core.Path.{_≡_, refl, ap, _∙_}
 use mathlib.Core.Bool.{true}
 use Prim.Native.Nat.{ℕ, _≤_, _<_}
 use native.Mathlib.Omega.{arith}
@@ -8,14 +8,28 @@ use lib.Dec.{T, ltb, lt→ltb}
 use mir.Facts.{yes-and}
 use borrow.Author.Tests.{le-leb}
 use Rattle.frame.specs.FrameTable.{dataLength}
-use Rattle.frame.specs.Push.{emptyPartial}
+use mathlib.Core.Bool.{Bool}
+use mathlib.Core.List.{List, _∷_}
+use mathlib.Core.Logic.{⊎-elim}
+use lib.Dec.{eqb, eqb→eq}
+use lib.ListN.{length}
+use mir.Facts.{and-yes}
+use Rattle.wire.proofs.BoolLaws.{to-T, le-or-lt}
+use Rattle.frame.specs.Push.{bodySizeAs, emptyPartial, afterOf, beginsFrame}
 use Rattle.frame.specs.Reach.{reachableOf}
 use Rattle.frame.specs.RunTable.{waits}
-use Rattle.frame.specs.Cut.{ReachableExact, RunOf128s, longSong, AllRemainingNeeded}
-use Rattle.frame.proofs.PushLaws.{no-opcode-before}
+use Rattle.frame.specs.Cut.{ReachableExact, RunOf128s, CutByTable, longSong, RemainingNeeded}
+use Rattle.frame.proofs.PushLaws.{not-opcodes, still-remain, then-empty, finishes}
 use Rattle.frame.proofs.ReachLaws.{skipping, of-facts, empty-reachable, next-reachable, after-reachable}
 use Rattle.frame.proofs.Reached.{reachable-left}
 use Rattle.frame.proofs.RunTableLaws.{rows-run, steps, opcode-at, remaining-le, waits-le}
+
+pub cut-by-table : CutByTable
+cut-by-table =
+    record {
+      data-not-opcodes = λ op ds e. ap (λ (l : List Bool). true ∷ l) (finishes op ds e .not-opcode);
+      then-empty = λ op ds e. finishes op ds e .empty-after;
+    }
 
 pub reachable-exact : ReachableExact
 reachable-exact =
@@ -37,14 +51,25 @@ run-of-128s =
     }
 
 song-reachable : (s k : ℕ) → s < 256 → 0 < k → k ≤ 510 → T (reachableOf (longSong s k))
-unfolding dataLength
+unfolding dataLength bodySizeAs
 song-reachable s k a h r =
     of-facts (longSong s k) (record { long = refl; small = yes-and (ltb s 256) true (lt→ltb s 256 a) tt; clear = tt }) (skipping h r refl refl)
 
-pub all-remaining-needed : AllRemainingNeeded
-all-remaining-needed =
+song-needs : (s k : ℕ) (bs : List ℕ) → 0 < k → beginsFrame (afterOf (longSong s k) bs) ≡ true → k ≤ length bs
+song-needs s k bs h e =
+    let q = afterOf (longSong s k) bs in
+    ⊎-elim (λ a. a) (λ (l : length bs < k).
+    let r = still-remain (longSong s k) bs l in
+    let z = eqb→eq (q .remaining) 0 (and-yes (eqb (q .remaining) 0) (eqb (q .count) 0) (to-T (beginsFrame q) e) .0) in
+    absurd (omega arith))
+    (le-or-lt k (length bs))
+
+pub remaining-needed : RemainingNeeded
+remaining-needed =
     record {
-      no-opcode-before = no-opcode-before;
-      song = λ s k bs j h a l. no-opcode-before bs (longSong s k) j h a l;
+      not-opcodes = not-opcodes;
+      still-remain = still-remain;
+      then-empty = then-empty;
+      song-needs = song-needs;
       song-reachable = song-reachable;
     }

@@ -1,22 +1,22 @@
 -- Laws of the parts of a frame, of a byte pushed, and of bytes one after the other.
 -- Assumes nothing.
-use mathlib.Core.Path.{_≡_, refl, sym, ap, _∙_}
-use mathlib.Core.Bool.{true, false, not}
+use mathlib.Core.Path.{_≡_, refl, sym, ap, subst, _∙_}
+use mathlib.Core.Bool.{Bool, true, false, not}
 use mathlib.Core.List.{List, [], _∷_, _++_}
 use mathlib.Core.Logic.{⊎-elim}
 use Prim.Native.Nat.{ℕ, zero, suc, _+_, _-_, _*_, _≤_, _<_}
 use native.Mathlib.Omega.{arith}
 use native.Mathlib.Nat.{eq-zero-or-pos, eq-or-lt-of-le}
 use lib.Dec.{T, leb, eqb, leb→le, leb·zero, leb·suc-suc}
-use lib.ListN.{length, getD, set}
+use lib.ListN.{length, getD, set, replicate}
 use lib.Seq.{getD-set-other}
 use mir.Facts.{and-yes}
-use borrow.Author.Tests.{le-leb, lt-leb, lt-ltb, le-ltb, eq-eqb, ne-eqb}
+use borrow.Author.Tests.{lt-leb, lt-ltb, le-ltb, eq-eqb, ne-eqb}
 use Rattle.wire.specs.Lists.{allBytes}
 use Rattle.wire.proofs.BoolLaws.{to-T, cond-true, cond-false}
 use Rattle.wire.proofs.ListsLaws.{byte-at}
-use Rattle.frame.specs.FrameTable.{dataLength, headerSize}
-use Rattle.frame.specs.Push.{bodySizeAs, storesBodyAs, lengthOf, headerOf, bodySize, storesBody, measureOf, bodyByteOf, pushOf, emptyPartial, nextOf, afterOf, beginsFrame, opcodes}
+use Rattle.frame.specs.FrameTable.{dataLength, dataBytes, headerSize}
+use Rattle.frame.specs.Push.{bodySizeAs, storesBodyAs, lengthOf, headerOf, bodySize, storesBody, measureOf, bodyByteOf, pushOf, emptyPartial, nextOf, afterOf, opcodes}
 use Rattle.frame.specs.declared.Length.{Length}
 use Rattle.frame.specs.declared.Length.the-variants.{Fixed, Counted, Song, Unknown}
 use Rattle.frame.specs.declared.Partial.{Partial}
@@ -38,6 +38,7 @@ header-le Song = omega arith
 header-le Unknown = omega arith
 
 body-as-le : (l : Length) (bs : List ℕ) → T (leb (code l) (code (Fixed 4))) → getD bs 1 0 < 256 → getD bs 2 0 < 256 → bodySizeAs l bs ≤ 510
+unfolding bodySizeAs
 body-as-le (Fixed n) bs t p q = let h : suc (suc (suc n)) ≤ 7 = leb→le (code (Fixed n)) 7 t in omega arith
 body-as-le Counted bs t p q = omega arith
 body-as-le Song bs t p q = omega arith
@@ -47,6 +48,7 @@ pub body-le : (bs : List ℕ) → T (allBytes bs) → bodySize bs ≤ 510
 body-le bs t = body-as-le (lengthOf bs) bs (fixed-small (getD bs 0 0) (byte-at bs t 0)) (byte-at bs t 1) (byte-at bs t 2)
 
 stored-as : (l : Length) (bs : List ℕ) → T (leb (code l) (code (Fixed 4))) → T (storesBodyAs l bs) → headerSize l + bodySizeAs l bs ≤ 35
+unfolding bodySizeAs
 stored-as (Fixed n) bs t k = let h : suc (suc (suc n)) ≤ 7 = leb→le (code (Fixed n)) 7 t in omega arith
 stored-as Counted bs t k =
     let h : getD bs 1 0 ≤ 16 = leb→le (getD bs 1 0) 16 (and-yes (not (eqb (getD bs 0 0) 152)) (leb (getD bs 1 0) 16) k .1) in
@@ -66,9 +68,10 @@ pub length-set : (bs : List ℕ) (i b : ℕ) → 0 < i → lengthOf (set bs i b)
 length-set bs i b h = ap dataLength (opcode-set bs i b h)
 
 body-as-set : (l : Length) (bs : List ℕ) (i b : ℕ) → headerSize l ≤ i → bodySizeAs l (set bs i b) ≡ bodySizeAs l bs
+unfolding bodySizeAs
 body-as-set (Fixed n) bs i b h = refl
-body-as-set Counted bs i b h = getD-set-other bs i 1 b 0 (λ (e : 1 ≡ i). omega arith)
-body-as-set Song bs i b h = ap (λ (n : ℕ). 2 * n) (getD-set-other bs i 2 b 0 (λ (e : 2 ≡ i). omega arith))
+body-as-set Counted bs i b h = simp (getD-set-other bs i 1 b 0 (λ (e : 1 ≡ i). omega arith))
+body-as-set Song bs i b h = simp (getD-set-other bs i 2 b 0 (λ (e : 2 ≡ i). omega arith))
 body-as-set Unknown bs i b h = refl
 
 stores-as-set : (l : Length) (bs : List ℕ) (i b : ℕ) → headerSize l ≤ i → storesBodyAs l (set bs i b) ≡ storesBodyAs l bs
@@ -158,29 +161,81 @@ pub after-append : (p : Partial) (bs cs : List ℕ) → afterOf p (bs ++ cs) ≡
 after-append p [] cs = refl
 after-append p (b ∷ bs) cs = after-append (nextOf p b) bs cs
 
-pub first-opcode : (p : Partial) (bs : List ℕ) → 0 < length bs → getD (opcodes p bs) 0 false ≡ beginsFrame p
-first-opcode p [] h = absurd (omega arith)
-first-opcode p (b ∷ bs) h = refl
-
 pub leb-pred : (m k : ℕ) → leb (m - 1) k ≡ leb m (suc k)
 leb-pred zero k = leb·zero k ∙ sym (leb·zero (suc k))
 leb-pred (suc m) k = let e : suc m - 1 ≡ m = omega arith in ap (λ (n : ℕ). leb n k) e ∙ sym (leb·suc-suc m k)
 
--- while bytes remain none is read as an opcode, and the one after them is
-pub no-opcode-before : (bs : List ℕ) (p : Partial) (j : ℕ) → 0 < p .remaining → j ≤ p .remaining → j < length bs
-    → getD (opcodes p bs) j false ≡ leb (p .remaining) j
-no-opcode-before [] p j h a l = absurd (omega arith)
-no-opcode-before (b ∷ bs) p zero h a l =
-    simp (ne-eqb (p .remaining) 0 (λ (e : p .remaining ≡ 0). omega arith)) (sym (lt-leb (p .remaining) 0 h))
-no-opcode-before (b ∷ bs) p (suc j) h a l =
-    ⊎-elim (λ (e : 1 ≡ p .remaining).
-    let z : j ≡ 0 = omega arith in
-    ap (λ (k : ℕ). getD (opcodes (nextOf p b) bs) k false) z
-    ∙ first-opcode (nextOf p b) bs (omega arith)
-    ∙ ap beginsFrame (next-last p b (sym e))
-    ∙ sym (le-leb (p .remaining) (suc j) (omega arith)))
-    (λ (m : 1 < p .remaining).
+-- ---- bytes that remain, of any partial frame and of any values
+
+pub not-opcodes : (p : Partial) (bs : List ℕ) → 0 < p .remaining → length bs ≤ p .remaining → opcodes p bs ≡ replicate (length bs) false
+not-opcodes p [] h a = refl
+not-opcodes p (b ∷ []) h a = simp (ne-eqb (p .remaining) 0 (λ (e : p .remaining ≡ 0). omega arith))
+not-opcodes p (b ∷ (c ∷ bs)) h a =
     let r = next-remaining p b h in
-    no-opcode-before bs (nextOf p b) j (omega arith) (omega arith) (omega arith)
-    ∙ ap (λ (n : ℕ). leb n j) r ∙ leb-pred (p .remaining) j)
-    (eq-or-lt-of-le h)
+    simp (ne-eqb (p .remaining) 0 (λ (e : p .remaining ≡ 0). omega arith))
+    (ap (λ (l : List Bool). false ∷ l) (not-opcodes (nextOf p b) (c ∷ bs) (omega arith) (omega arith)))
+
+pub still-remain : (p : Partial) (bs : List ℕ) → length bs < p .remaining → afterOf p bs .remaining ≡ p .remaining - length bs
+still-remain p [] h = omega arith
+still-remain p (b ∷ bs) h =
+    let r = next-remaining p b (omega arith) in
+    still-remain (nextOf p b) bs (omega arith) ∙ omega arith
+
+pub then-empty : (p : Partial) (bs : List ℕ) → 0 < p .remaining → length bs ≡ p .remaining → afterOf p bs ≡ emptyPartial
+then-empty p [] h e = absurd (omega arith)
+then-empty p (b ∷ []) h e = next-last p b (omega arith)
+then-empty p (b ∷ (c ∷ bs)) h e =
+    let r = next-remaining p b h in
+    then-empty (nextOf p b) (c ∷ bs) (omega arith) (omega arith)
+
+-- ---- a whole frame
+
+-- p has begun a frame that ds completes: none of them is read as an opcode, and nothing is stored after them
+pub record Finishes (p : Partial) (ds : List ℕ) : Type 0 where
+  pub not-opcode : opcodes p ds ≡ replicate (length ds) false
+  pub empty-after : afterOf p ds ≡ emptyPartial
+
+-- a byte that completes the header; the body follows
+finishes-known : (p q : Partial) (b : ℕ) (ds : List ℕ) → pushOf p b ≡ record { partial = q; complete = eqb (q .remaining) 0 }
+    → length ds ≡ q .remaining → Finishes (nextOf p b) ds
+finishes-known p q b [] e l =
+    record { not-opcode = refl; empty-after = next-complete p b (ap (λ (x : Pushed). x .complete) e ∙ eq-eqb (q .remaining) 0 (sym l)) }
+finishes-known p q b (d ∷ ds) e l =
+    subst (λ (r : Partial). Finishes r (d ∷ ds))
+    (sym (next-more p b _ e (ne-eqb (q .remaining) 0 (λ (z : q .remaining ≡ 0). omega arith))))
+    (record { not-opcode = not-opcodes q (d ∷ ds) (omega arith) (omega arith); empty-after = then-empty q (d ∷ ds) (omega arith) l })
+
+-- a byte after which the header wants another
+finishes-more : (p q : Partial) (b d : ℕ) (ds : List ℕ) → pushOf p b ≡ record { partial = q; complete = false } → q .remaining ≡ 0 → 0 < q .count
+    → Finishes (nextOf q d) ds → Finishes (nextOf p b) (d ∷ ds)
+finishes-more p q b d ds e z h f =
+    subst (λ (r : Partial). Finishes r (d ∷ ds)) (sym (next-more p b _ e refl))
+    (record {
+      not-opcode =
+          simp (eq-eqb (q .remaining) 0 z, ne-eqb (q .count) 0 (λ (x : q .count ≡ 0). omega arith))
+          (ap (λ (l : List Bool). false ∷ l) (f .not-opcode));
+      empty-after = f .empty-after;
+    })
+
+-- a frame whose first n bytes are stored, and the rest of the 35 places is 0
+abbrev begunBy : List ℕ → ℕ → ℕ → Partial
+begunBy bs n m = record { bytes = bs ++ replicate (35 - n) 0; count = n; remaining = m }
+
+finishes-as : (l : Length) (op : ℕ) (ds : List ℕ) → dataLength op ≡ l → length ds ≡ dataBytes l (op ∷ ds) → Finishes (nextOf emptyPartial op) ds
+unfolding bodySizeAs
+finishes-as (Fixed n) op ds e a = finishes-known emptyPartial (begunBy (op ∷ []) 1 (1 + n - 1)) op ds (simp e) (omega arith)
+finishes-as Unknown op ds e a = finishes-known emptyPartial (begunBy (op ∷ []) 1 0) op ds (simp e) a
+finishes-as Counted op [] e a = absurd (omega arith)
+finishes-as Counted op (n ∷ ds) e a =
+    finishes-more emptyPartial (begunBy (op ∷ []) 1 0) op n ds (simp e) refl (omega arith)
+    (finishes-known (begunBy (op ∷ []) 1 0) (begunBy (op ∷ n ∷ []) 2 (1 + (1 + n) - 2)) n ds (simp e) (omega arith))
+finishes-as Song op [] e a = absurd (omega arith)
+finishes-as Song op (s ∷ []) e a = absurd (omega arith)
+finishes-as Song op (s ∷ (n ∷ ds)) e a =
+    finishes-more emptyPartial (begunBy (op ∷ []) 1 0) op s (n ∷ ds) (simp e) refl (omega arith)
+    (finishes-more (begunBy (op ∷ []) 1 0) (begunBy (op ∷ s ∷ []) 2 0) s n ds (simp e) refl (omega arith)
+    (finishes-known (begunBy (op ∷ s ∷ []) 2 0) (begunBy (op ∷ s ∷ n ∷ []) 3 (1 + (2 + 2 * n) - 3)) n ds (simp e) (omega arith)))
+
+-- an opcode and its data bytes
+pub finishes : (op : ℕ) (ds : List ℕ) → length ds ≡ dataBytes (dataLength op) (op ∷ ds) → Finishes (nextOf emptyPartial op) ds
+finishes op ds a = finishes-as (dataLength op) op ds refl a

@@ -4,7 +4,7 @@ use mathlib.Core.Path.{_≡_, refl, sym, subst, ap, _∙_}
 use mathlib.Core.Bool.{Bool, false, not, _||_}
 use mathlib.Core.List.{List, [], _∷_}
 use mathlib.Core.Logic.{⊎-elim}
-use Prim.Native.Nat.{ℕ, zero, suc, _+_, _-_, _*_, _≤_, _<_, zero-le}
+use Prim.Native.Nat.{ℕ, zero, suc, _+_, _-_, _≤_, _<_, zero-le}
 use native.Mathlib.Omega.{arith}
 use native.Mathlib.Nat.{eq-zero-or-pos, eq-or-lt-of-le, le-of-suc-le-suc}
 use lib.Dec.{T, leb, ltb, eqb, eqb→eq}
@@ -28,7 +28,7 @@ use Rattle.frame.proofs.ReachLaws.{Stage, in-header, storing, skipping,
 
 -- each row, run
 pub rows-run : T (all rowRuns runTable)
-unfolding dataLength nextOf
+unfolding dataLength nextOf bodySizeAs
 rows-run = tt
 
 -- ---- waits, by what is held
@@ -65,7 +65,7 @@ header-rows n t op h a =
 
 header-row : (n : ℕ) → 0 < n → n ≤ 2 → (op : ℕ) → op < 256 → n < headerSize (dataLength op)
     → waits (begunWith op n) ≡ headerSize (dataLength op) - n + body128 (dataLength op)
-unfolding waits dataLength
+unfolding waits dataLength bodySizeAs
 header-row zero p q = absurd (omega arith)
 header-row (suc zero) p q = header-rows 1 tt
 header-row (suc (suc zero)) p q = header-rows 2 tt
@@ -81,17 +81,19 @@ waits-header p b z h a =
 -- ---- a 128 in the header
 
 body128-range : (l : Length) → 1 < headerSize l → (0 < body128 l) × (body128 l ≤ 256)
+unfolding bodySizeAs
 body128-range (Fixed n) a = absurd (omega arith)
 body128-range Counted a = (omega arith, omega arith)
 body128-range Song a = (omega arith, omega arith)
 body128-range Unknown a = absurd (omega arith)
 
 body-as-128 : (l : Length) (bs : List ℕ) (n : ℕ) → 0 < n → n + 1 ≡ headerSize l → n < length bs → bodySizeAs l (set bs n 128) ≡ body128 l
+unfolding bodySizeAs
 body-as-128 (Fixed m) bs n h a b = absurd (omega arith)
-body-as-128 Counted bs n h a b = let e : n ≡ 1 = omega arith in rw e (getD-set-same bs 1 128 0 (omega arith))
+body-as-128 Counted bs n h a b = let e : n ≡ 1 = omega arith in rw e (simp (getD-set-same bs 1 128 0 (omega arith)))
 body-as-128 Song bs n h a b =
     let e : n ≡ 2 = omega arith in
-    rw e (ap (λ (k : ℕ). 2 * k) (getD-set-same bs 2 128 0 (omega arith)))
+    rw e (simp (getD-set-same bs 2 128 0 (omega arith)))
 body-as-128 Unknown bs n h a b = absurd (omega arith)
 
 -- what a 128 does: it completes a frame where at most one byte is waited for, and one less is waited for after it
@@ -160,7 +162,7 @@ module _ (p : Partial) (t : T (reachableOf p)) (z : p .remaining ≡ 0) (h : 0 <
 -- ---- a 128 anywhere
 
 steps-empty : Steps emptyPartial
-unfolding waits nextOf dataLength
+unfolding waits nextOf dataLength bodySizeAs
 steps-empty = (refl, refl)
 
 one-or-less : (n : ℕ) → 0 < n → eqb n 1 ≡ leb n 1

@@ -7,10 +7,18 @@ use mathlib.Core.List.{List, _∷_}
 use lib.Dec.{T, leb}
 use lib.ListN.{length, getD, replicate}
 use Rattle.wire.specs.Lists.{all, allBytes}
-use Rattle.frame.specs.Push.{pushOf, emptyPartial, nextOf, afterOf, opcodes}
+use Rattle.frame.specs.FrameTable.{dataLength, dataBytes}
+use Rattle.frame.specs.Push.{pushOf, emptyPartial, nextOf, afterOf, beginsFrame, opcodes}
 use Rattle.frame.specs.Reach.{reachableOf}
 use Rattle.frame.specs.RunTable.{runTable, waits, rowRuns}
 use Rattle.frame.specs.declared.Partial.{Partial}
+
+-- THEOREM: a frame is an opcode and as many data bytes as the frame table says, whatever they are: none of them is read as an opcode,
+-- and nothing is stored after the last
+pub record CutByTable : Type 0 where
+  pub data-not-opcodes : (op : ℕ) (ds : List ℕ) → length ds ≡ dataBytes (dataLength op) (op ∷ ds)
+      → opcodes emptyPartial (op ∷ ds) ≡ true ∷ replicate (length ds) false
+  pub then-empty : (op : ℕ) (ds : List ℕ) → length ds ≡ dataBytes (dataLength op) (op ∷ ds) → afterOf emptyPartial (op ∷ ds) ≡ emptyPartial
 
 -- some list of bytes leaves this partial frame, from nothing
 pub record LeftBySome (p : Partial) : Type 0 where
@@ -43,11 +51,14 @@ pub record RunOf128s : Type 0 where
 abbrev pub longSong : ℕ → ℕ → Partial
 longSong s k = record { bytes = 140 ∷ s ∷ 255 ∷ replicate 32 0; count = 3; remaining = k }
 
--- THEOREM: while bytes remain, none of them is read as an opcode, whatever their values; the one after them is
-pub record AllRemainingNeeded : Type 0 where
-  -- for every partial frame, reachable or not: of bytes bs, byte j up to the k-th after
-  pub no-opcode-before : (bs : List ℕ) (p : Partial) (j : ℕ) → 0 < p .remaining → j ≤ p .remaining → j < length bs
-      → getD (opcodes p bs) j false ≡ leb (p .remaining) j
-  -- so from 140 s 255 with k bytes remaining the next opcode is byte k, counted from 0; each of these frames is reachable
-  pub song : (s k : ℕ) (bs : List ℕ) (j : ℕ) → 0 < k → j ≤ k → j < length bs → getD (opcodes (longSong s k) bs) j false ≡ leb k j
+-- THEOREM: the bytes that remain are all needed, whatever their values, of every partial frame, reachable or not
+pub record RemainingNeeded : Type 0 where
+  -- none of them is read as an opcode
+  pub not-opcodes : (p : Partial) (bs : List ℕ) → 0 < p .remaining → length bs ≤ p .remaining → opcodes p bs ≡ replicate (length bs) false
+  -- each takes the number to one less
+  pub still-remain : (p : Partial) (bs : List ℕ) → length bs < p .remaining → afterOf p bs .remaining ≡ p .remaining - length bs
+  -- the last of them ends the frame
+  pub then-empty : (p : Partial) (bs : List ℕ) → 0 < p .remaining → length bs ≡ p .remaining → afterOf p bs ≡ emptyPartial
+  -- so from 140 s 255 with k bytes remaining k bytes come before the next opcode; each such frame is reachable
+  pub song-needs : (s k : ℕ) (bs : List ℕ) → 0 < k → beginsFrame (afterOf (longSong s k) bs) ≡ true → k ≤ length bs
   pub song-reachable : (s k : ℕ) → s < 256 → 0 < k → k ≤ 510 → T (reachableOf (longSong s k))

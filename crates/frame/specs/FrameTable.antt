@@ -1,8 +1,9 @@
 -- The frame table (document 01, 'Cutting bytes into frames'): how many data bytes an opcode has.
 -- Assumes nothing.
-use Prim.Native.Nat.{ℕ}
+use Prim.Native.Nat.{ℕ, _+_, _*_}
 use mathlib.Core.Bool.{cond}
 use mathlib.Core.List.{List, [], _∷_, _++_}
+use lib.ListN.{getD}
 use Rattle.wire.specs.Lists.{among, span}
 use Rattle.frame.specs.declared.Length.{Length}
 use Rattle.frame.specs.declared.Length.the-variants.{Fixed, Counted, Song, Unknown}
@@ -34,6 +35,13 @@ look (r ∷ rs) op = cond (among (r .opcodes) op) (r .length) (look rs op)
 
 unfoldable pub dataLength : ℕ → Length
 dataLength op = look frameTable op
+
+-- the table's second column: how many data bytes a frame has, by its bytes. N is the first data byte, L the second.
+abbrev pub dataBytes : Length → List ℕ → ℕ
+dataBytes (Fixed n) bytes = n
+dataBytes Counted bytes = 1 + getD bytes 1 0
+dataBytes Song bytes = 2 + 2 * getD bytes 2 0
+dataBytes Unknown bytes = 0
 
 -- the bytes of a frame up to the one that gives its length: the opcode, and a count byte with what stands before it
 abbrev pub headerSize : Length → ℕ

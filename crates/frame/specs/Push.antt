@@ -1,12 +1,12 @@
 -- One byte, pushed onto the partial frame (document 01: the held frame). A frame is its header, the bytes up to the one that gives
 -- its length, and its body, the data bytes after that.
 -- Assumes nothing.
-use Prim.Native.Nat.{ℕ, _+_, _-_, _*_}
+use Prim.Native.Nat.{ℕ, _+_, _-_}
 use mathlib.Core.Bool.{Bool, true, false, not, cond, _&&_}
 use mathlib.Core.List.{List, [], _∷_}
 use lib.Dec.{leb, ltb, eqb}
 use lib.ListN.{getD, set, replicate}
-use Rattle.frame.specs.FrameTable.{dataLength, headerSize}
+use Rattle.frame.specs.FrameTable.{dataLength, dataBytes, headerSize}
 use Rattle.frame.specs.declared.Length.{Length}
 use Rattle.frame.specs.declared.Length.the-variants.{Fixed, Counted, Song, Unknown}
 use Rattle.frame.specs.declared.Partial.{Partial}
@@ -14,12 +14,9 @@ use Rattle.frame.specs.declared.Pushed.{Pushed}
 
 -- ---- the parts of a frame, by its first bytes
 
--- the body's size, once the header is stored: document 01's 1 + N and 2 + 2L, less the header
-abbrev pub bodySizeAs : Length → List ℕ → ℕ
-bodySizeAs (Fixed n) bytes = n
-bodySizeAs Counted bytes = getD bytes 1 0
-bodySizeAs Song bytes = 2 * getD bytes 2 0
-bodySizeAs Unknown bytes = 0
+-- the body's size, once the header is there: what the table says of the whole frame, less the header
+unfoldable pub bodySizeAs : Length → List ℕ → ℕ
+bodySizeAs l bytes = 1 + dataBytes l bytes - headerSize l
 
 -- whether the body is stored: not past a legal count, and not in a 152
 abbrev pub storesBodyAs : Length → List ℕ → Bool

@@ -6,6 +6,7 @@ use lib.ListN.{getD}
 use mir.Val.{Fits}
 use mir.Syntax.{w8}
 use borrow.Author.Needs.{needs}
+use Rattle.frame.specs.Push.{bodySizeAs}
 use Rattle.frame.proofs.body_size.Statement.{statement}
 use Rattle.frame.proofs.body_size.Tie as tie
 
@@ -43,16 +44,20 @@ enum-told-3 : tie.Need-enum-told-3
 enum-told-3 c = search needs
 
 returns : tie.Need-returns
-returns c = simp (sym (c .before .before .before .data-length .ensures) ∙ c .before .n .given .1)
+unfolding bodySizeAs
+returns c = simp (sym (c .before .before .before .data-length .ensures) ∙ c .before .n .given .1) (omega arith)
 
 returns-2 : tie.Need-returns-2
-returns-2 c = simp (sym (c .before .before .data-length .ensures) ∙ c .enum-told .given .1)
+unfolding bodySizeAs
+returns-2 c = simp (sym (c .before .before .data-length .ensures) ∙ c .enum-told .given .1) (omega arith)
 
 returns-3 : tie.Need-returns-3
-returns-3 c = simp (sym (c .before .before .data-length .ensures) ∙ c .enum-told2 .given .1)
+unfolding bodySizeAs
+returns-3 c = simp (sym (c .before .before .data-length .ensures) ∙ c .enum-told2 .given .1) (omega arith)
 
 returns-4 : tie.Need-returns-4
-returns-4 c = simp (sym (c .before .before .data-length .ensures) ∙ c .enum-told3 .given .1)
+unfolding bodySizeAs
+returns-4 c = simp (sym (c .before .before .data-length .ensures) ∙ c .enum-told3 .given .1) (omega arith)
 
 pub body-size-spec : {M : Type 1} → statement M
 body-size-spec =
