@@ -1,26 +1,24 @@
 -- The theorems of specs/Cut.antt.
 -- Assumes nothing.
 use mathlib.Core.Path.{_≡_, refl, ap, _∙_}
-use mathlib.Core.Bool.{true}
-use Prim.Native.Nat.{ℕ, _≤_, _<_}
-use native.Mathlib.Omega.{arith}
-use lib.Dec.{T, ltb, lt→ltb}
-use mir.Facts.{yes-and}
-use borrow.Author.Tests.{le-leb}
-use Rattle.frame.specs.FrameTable.{dataLength}
-use mathlib.Core.Bool.{Bool}
+use mathlib.Core.Bool.{true, Bool}
 use mathlib.Core.List.{List, _∷_}
 use mathlib.Core.Logic.{⊎-elim}
-use lib.Dec.{eqb, eqb→eq}
+use Prim.Native.Nat.{ℕ, _≤_, _<_}
+use native.Mathlib.Omega.{arith}
+use lib.Dec.{T, ltb, lt→ltb, eqb, eqb→eq}
 use lib.ListN.{length}
-use mir.Facts.{and-yes}
+use mir.Facts.{yes-and, and-yes}
+use borrow.Author.Tests.{le-leb}
 use Rattle.wire.proofs.BoolLaws.{to-T, le-or-lt}
+use Rattle.frame.specs.FrameTable.{dataLength}
 use Rattle.frame.specs.Push.{bodySizeAs, emptyPartial, afterOf, beginsFrame}
 use Rattle.frame.specs.Reach.{reachableOf}
 use Rattle.frame.specs.RunTable.{waits}
-use Rattle.frame.specs.Cut.{ReachableExact, RunOf128s, CutByTable, longSong, RemainingNeeded}
+use Rattle.frame.specs.Cut.{ReachableExact, RunOf128s, CutByTable, StoredAsSent, longSong, RemainingNeeded}
 use Rattle.frame.proofs.PushLaws.{not-opcodes, still-remain, then-empty, finishes}
-use Rattle.frame.proofs.ReachLaws.{skipping, of-facts, empty-reachable, next-reachable, after-reachable}
+use Rattle.frame.proofs.ReachLaws.{skipping, of-facts, places-le, empty-reachable, next-reachable, after-reachable}
+use Rattle.frame.proofs.StoredLaws.{partial-as-sent, complete-as-sent}
 use Rattle.frame.proofs.Reached.{reachable-left}
 use Rattle.frame.proofs.RunTableLaws.{rows-run, steps, opcode-at, remaining-le, waits-le}
 
@@ -31,11 +29,15 @@ cut-by-table =
       then-empty = λ op ds e. finishes op ds e .empty-after;
     }
 
+pub stored-as-sent : StoredAsSent
+stored-as-sent = record { partial-as-sent = partial-as-sent; complete-as-sent = complete-as-sent }
+
 pub reachable-exact : ReachableExact
 reachable-exact =
     record {
       of-all = λ bs u. after-reachable bs emptyPartial empty-reachable u;
       of-no-other = reachable-left;
+      places-le = places-le;
     }
 
 pub run-of-128s : RunOf128s

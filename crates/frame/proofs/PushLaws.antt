@@ -1,12 +1,12 @@
 -- Laws of the parts of a frame, of a byte pushed, and of bytes one after the other.
 -- Assumes nothing.
-use mathlib.Core.Path.{_≡_, refl, sym, ap, subst, _∙_}
+use mathlib.Core.Path.{_≡_, refl, sym, ap, ap₂, subst, _∙_}
 use mathlib.Core.Bool.{Bool, true, false, not}
 use mathlib.Core.List.{List, [], _∷_, _++_}
 use mathlib.Core.Logic.{⊎-elim}
 use Prim.Native.Nat.{ℕ, zero, suc, _+_, _-_, _*_, _≤_, _<_}
-use native.Mathlib.Omega.{arith}
 use native.Mathlib.Nat.{eq-zero-or-pos, eq-or-lt-of-le}
+use native.Mathlib.Omega.{arith}
 use lib.Dec.{T, leb, eqb, leb→le, leb·zero, leb·suc-suc}
 use lib.ListN.{length, getD, set, replicate}
 use lib.Seq.{getD-set-other}
@@ -16,7 +16,7 @@ use Rattle.wire.specs.Lists.{allBytes}
 use Rattle.wire.proofs.BoolLaws.{to-T, cond-true, cond-false}
 use Rattle.wire.proofs.ListsLaws.{byte-at}
 use Rattle.frame.specs.FrameTable.{dataLength, dataBytes, headerSize}
-use Rattle.frame.specs.Push.{bodySizeAs, storesBodyAs, lengthOf, headerOf, bodySize, storesBody, measureOf, bodyByteOf, pushOf, emptyPartial, nextOf, afterOf, opcodes}
+use Rattle.frame.specs.Push.{frameSizeAs, frameSize, bodySizeAs, storesBodyAs, lengthOf, headerOf, bodySize, storesBody, measureOf, bodyByteOf, pushOf, emptyPartial, nextOf, afterOf, opcodes}
 use Rattle.frame.specs.declared.Length.{Length}
 use Rattle.frame.specs.declared.Length.the-variants.{Fixed, Counted, Song, Unknown}
 use Rattle.frame.specs.declared.Partial.{Partial}
@@ -59,40 +59,56 @@ stored-as Unknown bs t k = omega arith
 pub stored-fits : (bs : List ℕ) → T (allBytes bs) → storesBody bs ≡ true → headerOf bs + bodySize bs ≤ 35
 stored-fits bs t k = stored-as (lengthOf bs) bs (fixed-small (getD bs 0 0) (byte-at bs t 0)) (to-T (storesBody bs) k)
 
--- ---- a byte past the opcode leaves the opcode, and so the length; one past the header leaves the body
+pub header-le-frame : (l : Length) (bs : List ℕ) → headerSize l ≤ frameSizeAs l bs
+header-le-frame (Fixed n) bs = omega arith
+header-le-frame Counted bs = omega arith
+header-le-frame Song bs = omega arith
+header-le-frame Unknown bs = omega arith
+
+-- ---- the header decides: lists that agree in it have the same sizes, and the same rule of storing
+
+abbrev pub Agree : ℕ → List ℕ → List ℕ → Type 0
+Agree n xs ys = (i : ℕ) → i < n → getD xs i 0 ≡ getD ys i 0
+
+data-as-agree : (l : Length) (xs ys : List ℕ) → Agree (headerSize l) xs ys → dataBytes l xs ≡ dataBytes l ys
+data-as-agree (Fixed n) xs ys a = refl
+data-as-agree Counted xs ys a = simp (a 1 (omega arith))
+data-as-agree Song xs ys a = simp (a 2 (omega arith))
+data-as-agree Unknown xs ys a = refl
+
+stores-as-agree : (l : Length) (xs ys : List ℕ) → Agree (headerSize l) xs ys → storesBodyAs l xs ≡ storesBodyAs l ys
+stores-as-agree (Fixed n) xs ys a = refl
+stores-as-agree Counted xs ys a = simp (a 0 (omega arith), a 1 (omega arith))
+stores-as-agree Song xs ys a = simp (a 2 (omega arith))
+stores-as-agree Unknown xs ys a = refl
+
+module _ (xs ys : List ℕ) (a : Agree (headerOf ys) xs ys) where
+  pub length-agree : lengthOf xs ≡ lengthOf ys
+  length-agree = ap dataLength (a 0 (header-pos (lengthOf ys)))
+
+  pub header-agree : headerOf xs ≡ headerOf ys
+  header-agree = ap headerSize length-agree
+
+  pub frame-agree : frameSize xs ≡ frameSize ys
+  frame-agree =
+      ap (λ (l : Length). frameSizeAs l xs) length-agree ∙ ap (λ (n : ℕ). 1 + n) (data-as-agree (lengthOf ys) xs ys a)
+
+  pub body-agree : bodySize xs ≡ bodySize ys
+  unfolding bodySizeAs
+  body-agree = ap₂ (λ (m n : ℕ). m - n) frame-agree header-agree
+
+  pub stores-agree : storesBody xs ≡ storesBody ys
+  stores-agree = ap (λ (l : Length). storesBodyAs l xs) length-agree ∙ stores-as-agree (lengthOf ys) xs ys a
+
+-- a store past the header, and one past the opcode
+pub set-agree : (bs : List ℕ) (n i b : ℕ) → n ≤ i → Agree n (set bs i b) bs
+set-agree bs n i b h j a = getD-set-other bs i j b 0 (λ (e : j ≡ i). omega arith)
 
 pub opcode-set : (bs : List ℕ) (i b : ℕ) → 0 < i → getD (set bs i b) 0 0 ≡ getD bs 0 0
-opcode-set bs i b h = getD-set-other bs i 0 b 0 (λ (e : 0 ≡ i). omega arith)
+opcode-set bs i b h = set-agree bs 1 i b h 0 (omega arith)
 
 pub length-set : (bs : List ℕ) (i b : ℕ) → 0 < i → lengthOf (set bs i b) ≡ lengthOf bs
 length-set bs i b h = ap dataLength (opcode-set bs i b h)
-
-body-as-set : (l : Length) (bs : List ℕ) (i b : ℕ) → headerSize l ≤ i → bodySizeAs l (set bs i b) ≡ bodySizeAs l bs
-unfolding bodySizeAs
-body-as-set (Fixed n) bs i b h = refl
-body-as-set Counted bs i b h = simp (getD-set-other bs i 1 b 0 (λ (e : 1 ≡ i). omega arith))
-body-as-set Song bs i b h = simp (getD-set-other bs i 2 b 0 (λ (e : 2 ≡ i). omega arith))
-body-as-set Unknown bs i b h = refl
-
-stores-as-set : (l : Length) (bs : List ℕ) (i b : ℕ) → headerSize l ≤ i → storesBodyAs l (set bs i b) ≡ storesBodyAs l bs
-stores-as-set (Fixed n) bs i b h = refl
-stores-as-set Counted bs i b h =
-    simp (getD-set-other bs i 0 b 0 (λ (e : 0 ≡ i). omega arith), getD-set-other bs i 1 b 0 (λ (e : 1 ≡ i). omega arith))
-stores-as-set Song bs i b h = simp (getD-set-other bs i 2 b 0 (λ (e : 2 ≡ i). omega arith))
-stores-as-set Unknown bs i b h = refl
-
-module _ (bs : List ℕ) (i b : ℕ) (h : headerOf bs ≤ i) where
-  past : 0 < i
-  past = let p = header-pos (lengthOf bs) in omega arith
-
-  pub header-set : headerOf (set bs i b) ≡ headerOf bs
-  header-set = ap headerSize (length-set bs i b past)
-
-  pub body-set : bodySize (set bs i b) ≡ bodySize bs
-  body-set = ap (λ (l : Length). bodySizeAs l (set bs i b)) (length-set bs i b past) ∙ body-as-set (lengthOf bs) bs i b h
-
-  pub stores-set : storesBody (set bs i b) ≡ storesBody bs
-  stores-set = ap (λ (l : Length). storesBodyAs l (set bs i b)) (length-set bs i b past) ∙ stores-as-set (lengthOf bs) bs i b h
 
 -- a byte of the header leaves at least itself in it
 pub header-grown : (bs : List ℕ) (n b : ℕ) → n < headerOf bs → n + 1 ≤ headerOf (set bs n b)

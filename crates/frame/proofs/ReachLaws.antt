@@ -5,9 +5,9 @@ use mathlib.Core.Bool.{Bool, true, false, not, cond, _&&_}
 use mathlib.Core.List.{List, [], _∷_}
 use mathlib.Core.Logic.{⊎-elim}
 use Prim.Native.Nat.{ℕ, _+_, _-_, _≤_, _<_}
-use native.Mathlib.Omega.{arith}
 use native.Mathlib.Nat.{eq-or-lt-of-le}
-use lib.Dec.{T, leb, ltb, eqb, eqb→eq, leb→le, ltb→lt}
+use native.Mathlib.Omega.{arith}
+use lib.Dec.{T, ltb, eqb, eqb→eq, leb→le, ltb→lt}
 use lib.ListN.{length, set, drop, replicate, length-set}
 use lib.Seq.{drop-set-lt}
 use mir.Facts.{and-yes, yes-and, yes-eqb}
@@ -17,10 +17,10 @@ use Rattle.wire.proofs.BoolLaws.{is-true, to-T, cond-cases, not-zero}
 use Rattle.wire.proofs.ListsLaws.{bytes-set, all-later, zeros-are}
 use Rattle.frame.specs.FrameTable.{dataLength}
 use Rattle.frame.specs.Push.{lengthOf, headerOf, bodySize, storesBody, measureOf, pushOf, emptyPartial, nextOf, afterOf}
-use Rattle.frame.specs.Reach.{isArray, unusedZero, bodyBegun, remainingRight, reachableOf}
+use Rattle.frame.specs.Reach.{isArray, unusedZero, remainingFits, bodyStored, headerAlone, bodyBegun, remainingRight, reachableOf}
 use Rattle.frame.specs.declared.Partial.{Partial}
 use Rattle.frame.specs.declared.Pushed.{Pushed}
-use Rattle.frame.proofs.PushLaws.{header-pos, header-le, stored-fits, header-set, body-set, stores-set, header-grown, partial-eq, grown, measure-waits, measure-known, push-header, push-stored, push-skipped, next-complete, next-more}
+use Rattle.frame.proofs.PushLaws.{header-pos, header-le, stored-fits, set-agree, header-agree, body-agree, stores-agree, header-grown, partial-eq, grown, measure-waits, measure-known, push-header, push-stored, push-skipped, next-complete, next-more}
 
 -- ---- `reachableOf` as facts
 
@@ -38,15 +38,6 @@ pub data Stage (p : Partial) : Type 0 where
   skipping : 0 < p .remaining → p .remaining ≤ bodySize (p .bytes) → storesBody (p .bytes) ≡ false → p .count ≡ headerOf (p .bytes) → Stage p
 
 module _ (p : Partial) where
-  abbrev allStored : Bool
-  allStored = eqb (p .count - headerOf (p .bytes)) (bodySize (p .bytes) - p .remaining)
-
-  abbrev headerAlone : Bool
-  headerAlone = eqb (p .count) (headerOf (p .bytes))
-
-  abbrev fewEnough : Bool
-  fewEnough = leb (p .remaining) (bodySize (p .bytes))
-
   parts : T (reachableOf p) → T (isArray p) × T (unusedZero p && remainingRight p)
   unfolding reachableOf
   parts t = and-yes (isArray p) (unusedZero p && remainingRight p) t
@@ -62,12 +53,12 @@ module _ (p : Partial) where
 
   begun : headerOf (p .bytes) ≤ p .count → T (bodyBegun p) → Stage p
   begun a t =
-      let u = and-yes (not (eqb (p .remaining) 0)) (fewEnough && cond (storesBody (p .bytes)) allStored headerAlone) t in
-      let v = and-yes fewEnough (cond (storesBody (p .bytes)) allStored headerAlone) (u .1) in
+      let u = and-yes (not (eqb (p .remaining) 0)) (remainingFits p && cond (storesBody (p .bytes)) (bodyStored p) (headerAlone p)) t in
+      let v = and-yes (remainingFits p) (cond (storesBody (p .bytes)) (bodyStored p) (headerAlone p)) (u .1) in
       let h = not-zero (p .remaining) (not-true (eqb (p .remaining) 0) (is-true (not (eqb (p .remaining) 0)) (u .0))) in
       let r = leb→le (p .remaining) (bodySize (p .bytes)) (v .0) in
       ⊎-elim (λ q. storing a h r (q .0) (eqb→eq _ _ (q .1))) (λ q. skipping h r (q .0) (eqb→eq _ _ (q .1)))
-      (cond-cases (storesBody (p .bytes)) allStored headerAlone (v .1))
+      (cond-cases (storesBody (p .bytes)) (bodyStored p) (headerAlone p) (v .1))
 
   pub stage-of : T (reachableOf p) → Stage p
   stage-of t =
@@ -123,6 +114,14 @@ pub stored-room : (p : Partial) → T (allBytes (p .bytes)) → headerOf (p .byt
     → storesBody (p .bytes) ≡ true → p .count - headerOf (p .bytes) ≡ bodySize (p .bytes) - p .remaining → p .count < 35
 stored-room p t a h r k e = let f = stored-fits (p .bytes) t k in omega arith
 
+pub places-le : (p : Partial) → T (reachableOf p) → p .count ≤ 34
+places-le p t = at (stage-of p t)
+  where
+    at : Stage p → p .count ≤ 34
+    at (in-header a z) = let le = header-le (lengthOf (p .bytes)) in omega arith
+    at (storing a h r k e) = let room = stored-room p (places-of p t .small) a h r k e in omega arith
+    at (skipping h r k e) = let le = header-le (lengthOf (p .bytes)) in omega arith
+
 -- what a byte leaves where it does not complete the frame
 abbrev Leaves : Pushed → Type 0
 Leaves r = r .complete ≡ false → T (reachableOf (r .partial))
@@ -151,13 +150,14 @@ leaves p b q hb (in-header a e) =
 leaves p b q hb (storing a h r k e) =
     let room = stored-room p (q .small) a h r k e in
     let g = grown p b (p .remaining - 1) in
-    let l₁ = header-set (p .bytes) (p .count) b a in
-    let r₁ = body-set (p .bytes) (p .count) b a in
+    let same = set-agree (p .bytes) (headerOf (p .bytes)) (p .count) b a in
+    let l₁ = header-agree (g .bytes) (p .bytes) same in
+    let r₁ = body-agree (g .bytes) (p .bytes) same in
     subst Leaves (sym (push-stored p b h k room))
     (λ w.
     let m = not-last (p .remaining) h w in
     of-facts g (places-grown (p .bytes) (p .count) b q room hb)
-    (storing (omega arith) (omega arith) (omega arith) (stores-set (p .bytes) (p .count) b a ∙ k) (omega arith)))
+    (storing (omega arith) (omega arith) (omega arith) (stores-agree (g .bytes) (p .bytes) same ∙ k) (omega arith)))
 leaves p b q hb (skipping h r k e) =
     subst Leaves (sym (push-skipped p b h k))
     (λ w.

@@ -1,14 +1,14 @@
 -- What the cut guarantees: the theorems of this crate, each field one sentence of document 01.
 -- Assumes nothing.
-use Prim.Native.Nat.{ℕ, _-_, _≤_, _<_}
 use mathlib.Core.Path.{_≡_}
-use mathlib.Core.Bool.{true, false}
-use mathlib.Core.List.{List, _∷_}
-use lib.Dec.{T, leb}
-use lib.ListN.{length, getD, replicate}
+use mathlib.Core.Bool.{true, false, cond}
+use mathlib.Core.List.{List, [], _∷_, _++_}
+use Prim.Native.Nat.{ℕ, _-_, _≤_, _<_}
+use lib.Dec.{T, leb, ltb}
+use lib.ListN.{length, getD, take, replicate}
 use Rattle.wire.specs.Lists.{all, allBytes}
 use Rattle.frame.specs.FrameTable.{dataLength, dataBytes}
-use Rattle.frame.specs.Push.{pushOf, emptyPartial, nextOf, afterOf, beginsFrame, opcodes}
+use Rattle.frame.specs.Push.{headerOf, frameSize, storesBody, pushOf, emptyPartial, nextOf, afterOf, beginsFrame, opcodes}
 use Rattle.frame.specs.Reach.{reachableOf}
 use Rattle.frame.specs.RunTable.{runTable, waits, rowRuns}
 use Rattle.frame.specs.declared.Partial.{Partial}
@@ -20,6 +20,27 @@ pub record CutByTable : Type 0 where
       → opcodes emptyPartial (op ∷ ds) ≡ true ∷ replicate (length ds) false
   pub then-empty : (op : ℕ) (ds : List ℕ) → length ds ≡ dataBytes (dataLength op) (op ∷ ds) → afterOf emptyPartial (op ∷ ds) ≡ emptyPartial
 
+-- what is kept of a frame's bytes: all, or, past its legal count and in a 152, those up to the count byte
+abbrev pub keptOf : List ℕ → List ℕ
+keptOf bs = cond (storesBody bs) bs (take (headerOf bs) bs)
+
+-- the partial frame of a frame's first bytes: those that are kept, from the first place on; the number remaining, once the length is known
+abbrev pub partialOf : List ℕ → Partial
+partialOf bs =
+    record {
+      bytes = keptOf bs ++ replicate (35 - length (keptOf bs)) 0;
+      count = length (keptOf bs);
+      remaining = cond (ltb (length bs) (headerOf bs)) 0 (frameSize bs - length bs);
+    }
+
+-- THEOREM: what is stored is what was sent. (No frame is empty, so bs in `complete-as-sent` may be.)
+pub record StoredAsSent : Type 0 where
+  -- between two bytes
+  pub partial-as-sent : (bs : List ℕ) → T (allBytes bs) → 0 < length bs → length bs < frameSize bs → afterOf emptyPartial bs ≡ partialOf bs
+  -- at the last byte
+  pub complete-as-sent : (bs : List ℕ) (b : ℕ) → T (allBytes bs) → length (bs ++ (b ∷ [])) ≡ frameSize (bs ++ (b ∷ []))
+      → pushOf (afterOf emptyPartial bs) b ≡ record { partial = partialOf (bs ++ (b ∷ [])); complete = true }
+
 -- some list of bytes leaves this partial frame, from nothing
 pub record LeftBySome (p : Partial) : Type 0 where
   pub list : List ℕ
@@ -30,6 +51,8 @@ pub record LeftBySome (p : Partial) : Type 0 where
 pub record ReachableExact : Type 0 where
   pub of-all : (bs : List ℕ) → T (allBytes bs) → T (reachableOf (afterOf emptyPartial bs))
   pub of-no-other : (p : Partial) → T (reachableOf p) → LeftBySome p
+  -- so at most 34 of the 35 places are in use between two bytes
+  pub places-le : (p : Partial) → T (reachableOf p) → p .count ≤ 34
 
 -- THEOREM: the run of 128s
 pub record RunOf128s : Type 0 where

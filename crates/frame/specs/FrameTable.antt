@@ -1,10 +1,10 @@
 -- The frame table (document 01, 'Cutting bytes into frames'): how many data bytes an opcode has.
 -- Assumes nothing.
-use Prim.Native.Nat.{ℕ, _+_, _*_}
 use mathlib.Core.Bool.{cond}
 use mathlib.Core.List.{List, [], _∷_, _++_}
+use Prim.Native.Nat.{ℕ, _+_, _*_}
 use lib.ListN.{getD}
-use Rattle.wire.specs.Lists.{among, span}
+use Rattle.wire.specs.Lists.{among, fromTo}
 use Rattle.frame.specs.declared.Length.{Length}
 use Rattle.frame.specs.declared.Length.the-variants.{Fixed, Counted, Song, Unknown}
 
@@ -19,7 +19,7 @@ row ops n = record { opcodes = ops; length = n }
 -- document 01's rows, in its order. Its last, 'all others', is the end of the list.
 abbrev pub frameTable : List Row
 frameTable =
-    row (128 ∷ (span 130 7 ++ (143 ∷ 153 ∷ 154 ∷ []))) (Fixed 0)
+    row (128 ∷ (fromTo 130 136 ++ (143 ∷ 153 ∷ 154 ∷ []))) (Fixed 0)
     ∷ row (129 ∷ 138 ∷ 141 ∷ 142 ∷ 147 ∷ 150 ∷ 151 ∷ 155 ∷ 158 ∷ []) (Fixed 1)
     ∷ row (156 ∷ 157 ∷ []) (Fixed 2)
     ∷ row (139 ∷ 144 ∷ []) (Fixed 3)

@@ -1,9 +1,9 @@
 -- One byte, pushed onto the partial frame (document 01: the held frame). A frame is its header, the bytes up to the one that gives
 -- its length, and its body, the data bytes after that.
 -- Assumes nothing.
-use Prim.Native.Nat.{ℕ, _+_, _-_}
 use mathlib.Core.Bool.{Bool, true, false, not, cond, _&&_}
 use mathlib.Core.List.{List, [], _∷_}
+use Prim.Native.Nat.{ℕ, _+_, _-_}
 use lib.Dec.{leb, ltb, eqb}
 use lib.ListN.{getD, set, replicate}
 use Rattle.frame.specs.FrameTable.{dataLength, dataBytes, headerSize}
@@ -14,9 +14,12 @@ use Rattle.frame.specs.declared.Pushed.{Pushed}
 
 -- ---- the parts of a frame, by its first bytes
 
--- the body's size, once the header is there: what the table says of the whole frame, less the header
+-- the frame's size, once the header is there: the opcode, and as many data bytes as the frame table says
+abbrev pub frameSizeAs : Length → List ℕ → ℕ
+frameSizeAs l bytes = 1 + dataBytes l bytes
+
 unfoldable pub bodySizeAs : Length → List ℕ → ℕ
-bodySizeAs l bytes = 1 + dataBytes l bytes - headerSize l
+bodySizeAs l bytes = frameSizeAs l bytes - headerSize l
 
 -- whether the body is stored: not past a legal count, and not in a 152
 abbrev pub storesBodyAs : Length → List ℕ → Bool
@@ -30,6 +33,9 @@ lengthOf bytes = dataLength (getD bytes 0 0)
 
 abbrev pub headerOf : List ℕ → ℕ
 headerOf bytes = headerSize (lengthOf bytes)
+
+abbrev pub frameSize : List ℕ → ℕ
+frameSize bytes = frameSizeAs (lengthOf bytes) bytes
 
 abbrev pub bodySize : List ℕ → ℕ
 bodySize bytes = bodySizeAs (lengthOf bytes) bytes

@@ -1,7 +1,7 @@
 -- The partial frames that the frame table can leave between two bytes (document 01, 'Bad record').
 -- Assumes nothing.
-use Prim.Native.Nat.{_-_}
 use mathlib.Core.Bool.{Bool, not, cond, _&&_}
+use Prim.Native.Nat.{_-_}
 use lib.Dec.{leb, ltb, eqb}
 use lib.ListN.{drop}
 use Rattle.wire.specs.Lists.{allZero, byteArray}
@@ -16,14 +16,22 @@ isArray p = byteArray 35 (p .bytes)
 abbrev pub unusedZero : Partial → Bool
 unusedZero p = allZero (drop (p .count) (p .bytes))
 
--- the bytes that remain are some of the body's; those that came are stored where the body is, and else the header alone is
+-- the bytes that remain are some of the body's
+abbrev pub remainingFits : Partial → Bool
+remainingFits p = leb (p .remaining) (bodySize (p .bytes))
+
+-- the header is stored, and all of the body that came
+abbrev pub bodyStored : Partial → Bool
+bodyStored p = eqb (p .count - headerOf (p .bytes)) (bodySize (p .bytes) - p .remaining)
+
+-- the header alone is stored
+abbrev pub headerAlone : Partial → Bool
+headerAlone p = eqb (p .count) (headerOf (p .bytes))
+
+-- the length is known: the frame is not complete, and as much of it is stored as is kept
 abbrev pub bodyBegun : Partial → Bool
 bodyBegun p =
-    not (eqb (p .remaining) 0)
-    && (leb (p .remaining) (bodySize (p .bytes))
-    && cond (storesBody (p .bytes))
-    (eqb (p .count - headerOf (p .bytes)) (bodySize (p .bytes) - p .remaining))
-    (eqb (p .count) (headerOf (p .bytes))))
+    not (eqb (p .remaining) 0) && (remainingFits p && cond (storesBody (p .bytes)) (bodyStored p) (headerAlone p))
 
 -- the number remaining is 0 while nothing is stored or the length isn't known
 abbrev pub remainingRight : Partial → Bool

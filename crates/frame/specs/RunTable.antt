@@ -1,8 +1,8 @@
 -- The run table (document 01, 'The run of 128s'): which byte of a run of 128s is first read as an opcode.
 -- Assumes nothing.
-use Prim.Native.Nat.{ℕ, suc, _+_, _-_}
 use mathlib.Core.Bool.{Bool, true, false, not, cond, _&&_}
 use mathlib.Core.List.{List, [], _∷_, map}
+use Prim.Native.Nat.{ℕ, suc, _+_, _-_}
 use lib.Dec.{eqb}
 use lib.ListN.{getD, replicate}
 use Rattle.wire.specs.Lists.{all, among}

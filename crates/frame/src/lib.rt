@@ -1,5 +1,16 @@
 // Cuts a serial byte stream into frames: an opcode and its data bytes (document 01, 'Cutting bytes into frames').
-// The cut knows nothing of modes, and nothing of whether the command will be refused.
+//
+//     128, 130 to 136, 143, 153, 154                  0
+//     129, 138, 141, 142, 147, 150, 151, 155, 158     1
+//     156, 157                                        2
+//     139, 144                                        3
+//     137, 145                                        4
+//     140                                             2 + 2L, L the second data byte
+//     148, 149, 152                                   1 + N, N the first data byte
+//     all others                                      0, unknown
+//
+// Proved (specs/Cut.antt): whatever the data bytes are, none is read as an opcode, and the byte after them is; so of 511 bytes 128 the
+// last is read as one, and 511 is the least such number. The cut knows nothing of modes, nor of whether a command will be refused.
 ghost use mathlib.Core.Path.{_≡_};
 ghost use lib.ListN.{drop};
 ghost use Rattle.wire.specs.Lists.{allZero};

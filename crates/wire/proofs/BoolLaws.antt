@@ -1,11 +1,11 @@
 -- Bool tests as facts. The library has those on `&&`, `||` and `not` (`mir.Facts`), and on the tests of numbers (`borrow.Author.Tests`).
 -- Assumes nothing.
-use mathlib.Core.Path.{_≡_, refl, sym, subst}
+use mathlib.Core.Path.{_≡_, refl, sym, subst, _∙_}
 use mathlib.Core.Bool.{Bool, true, false, not, cond, _||_}
 use mathlib.Core.Logic.{_⊎_, inl, inr}
 use Prim.Native.Nat.{ℕ, zero, suc, _≤_, _<_, zero-le, suc-le-suc}
 use lib.Dec.{T, leb, eqb}
-use borrow.Author.Tests.{leb-true, leb-false}
+use borrow.Author.Tests.{leb-true, leb-false, eqb-true, eqb-false, eq-eqb, ne-eqb}
 
 pub is-true : (b : Bool) → T b → b ≡ true
 is-true true t = refl
@@ -44,3 +44,11 @@ le-or-lt a b = go (leb a b) refl
 pub not-zero : (n : ℕ) → eqb n 0 ≡ false → 0 < n
 not-zero zero e = absurd (subst T e tt)
 not-zero (suc n) e = suc-le-suc zero-le
+
+-- two tests of equality that say the same
+pub eqb-iff : (a b c d : ℕ) → (a ≡ b → c ≡ d) → (c ≡ d → a ≡ b) → eqb a b ≡ eqb c d
+eqb-iff a b c d f g = go (eqb a b) refl
+  where
+    go : (t : Bool) → eqb a b ≡ t → eqb a b ≡ eqb c d
+    go true e = e ∙ sym (eq-eqb c d (f (eqb-true a b e)))
+    go false e = e ∙ sym (ne-eqb c d (λ h. eqb-false a b e (g h)))

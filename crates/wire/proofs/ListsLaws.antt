@@ -1,16 +1,16 @@
 -- Laws of the tests over lists.
 -- Assumes nothing.
-use mathlib.Core.Path.{_≡_, refl, ap, subst, _∙_}
+use mathlib.Core.Path.{_≡_, refl, sym, ap, subst, _∙_}
 use mathlib.Core.Bool.{Bool, true, _&&_}
-use mathlib.Core.List.{List, [], _∷_, _++_}
+use mathlib.Core.List.{List, [], _∷_, _++_, append-assoc}
 use mathlib.Core.Logic.{⊎-elim}
-use Prim.Native.Nat.{ℕ, zero, suc, _+_, _≤_, _<_, zero-le}
+use Prim.Native.Nat.{ℕ, zero, suc, _+_, _-_, _≤_, _<_, zero-le}
 use native.Mathlib.Nat.{eq-or-lt-of-le}
 use native.Mathlib.Numerals.{add-one}
 use native.Mathlib.Omega.{arith}
 use lib.Dec.{T, eqb, eqb→eq, ltb→lt, leb, leb→le}
-use lib.ListN.{length, getD, set, drop, replicate}
-use lib.Seq.{drop-cons}
+use lib.ListN.{length, getD, set, take, drop, replicate, length-append, length-drop, take-append-drop}
+use lib.Seq.{drop-cons, set-append-seam}
 use mir.Facts.{and-yes, yes-and, yes-ltb}
 use borrow.Author.Tests.{lt-ltb}
 use Rattle.wire.specs.Lists.{all, allFrom, isZero, isByte, allZero, allBytes}
@@ -19,6 +19,22 @@ use Rattle.wire.specs.Lists.{all, allFrom, isZero, isByte, allZero, allB
 
 pub drop-next : (l : List ℕ) (i : ℕ) → i < length l → drop i l ≡ getD l i 0 ∷ drop (i + 1) l
 drop-next l i h = rw add-one (drop-cons l i 0 h)
+
+-- ---- a list with zeros after it
+
+pub getD-zeros : (l : List ℕ) (k i : ℕ) → getD (l ++ replicate k 0) i 0 ≡ getD l i 0
+getD-zeros [] zero i = refl
+getD-zeros [] (suc k) zero = refl
+getD-zeros [] (suc k) (suc i) = getD-zeros [] k i
+getD-zeros (x ∷ xs) k zero = refl
+getD-zeros (x ∷ xs) k (suc i) = getD-zeros xs k i
+
+-- a store at the first of n places that are not in use
+pub set-zeros : (l : List ℕ) (n b : ℕ) → length l < n
+    → set (l ++ replicate (n - length l) 0) (length l) b ≡ (l ++ (b ∷ [])) ++ replicate (n - length (l ++ (b ∷ []))) 0
+set-zeros l n b h =
+    let e : n - length l ≡ suc (n - length (l ++ (b ∷ []))) = omega (arith, length-append l (b ∷ [])) in
+    rw e (set-append-seam l 0 (replicate (n - length (l ++ (b ∷ []))) 0) b ∙ sym (append-assoc l (b ∷ []) (replicate (n - length (l ++ (b ∷ []))) 0)))
 
 -- ---- all
 
@@ -40,6 +56,17 @@ module _ (f : ℕ → Bool) where
   all-append (x ∷ xs) m t u =
       let s = and-yes (f x) (all f xs) t in
       yes-and (f x) (all f (xs ++ m)) (s .0) (all-append xs m (s .1) u)
+
+  pub all-take : (n : ℕ) (l : List ℕ) → T (all f l) → T (all f (take n l))
+  all-take zero l t = tt
+  all-take (suc n) [] t = tt
+  all-take (suc n) (x ∷ xs) t =
+      let s = and-yes (f x) (all f xs) t in
+      yes-and (f x) (all f (take n xs)) (s .0) (all-take n xs (s .1))
+
+  pub all-replicate : (n b : ℕ) → T (f b) → T (all f (replicate n b))
+  all-replicate zero b t = tt
+  all-replicate (suc n) b t = yes-and (f b) (all f (replicate n b)) t (all-replicate n b t)
 
   -- one turn of a loop that tests the elements from i on
   pub all-next : (l : List ℕ) (i : ℕ) → i < length l → all f (drop i l) ≡ (f (getD l i 0) && all f (drop (i + 1) l))
@@ -87,3 +114,8 @@ zeros-are [] t = refl
 zeros-are (x ∷ xs) t =
     let s = and-yes (isZero x) (allZero xs) t in
     ap (λ (n : ℕ). n ∷ xs) (eqb→eq x 0 (s .0)) ∙ ap (λ (l : List ℕ). 0 ∷ l) (zeros-are xs (s .1))
+
+-- a list whose places from n on are 0
+pub zeros-from : (l : List ℕ) (n : ℕ) → T (allZero (drop n l)) → l ≡ take n l ++ replicate (length l - n) 0
+zeros-from l n t =
+    sym (take-append-drop n l) ∙ ap (λ (m : List ℕ). take n l ++ m) (zeros-are (drop n l) t ∙ ap (λ (k : ℕ). replicate k 0) (length-drop n l))

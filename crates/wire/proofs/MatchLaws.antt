@@ -9,8 +9,8 @@ use Prim.Native.Nat.{ℕ, _≤_, _<_, zero-le}
 use native.Mathlib.Omega.{arith}
 use lib.Dec.{T, leb}
 use lib.ListN.{length, getD}
-use mir.Val.{hasKey}
 use mir.Facts.{or-yes, T-not-not, not-T, yes-and, yes-leb}
+use mir.Val.{hasKey}
 use types.Run.{OneOf, hit, miss}
 use Rattle.wire.specs.Lists.{all, allFrom, within}
 use Rattle.wire.proofs.BoolLaws.{implied}

@@ -3,15 +3,15 @@
 use mathlib.Core.Path.{_≡_, refl, sym, ap, ap₂, _∙_}
 use mathlib.Core.Bool.{true, false}
 use mathlib.Core.List.{[], _∷_}
+use mathlib.Core.Logic.{⊎-elim}
 use Prim.Native.Nat.{ℕ, zero, suc, _+_, _-_, _*_, _/_, _%_, _<_, _≤_}
-use native.Mathlib.Omega.{arith}
 use native.Mathlib.Nat.{zero-add}
+use native.Mathlib.Omega.{arith}
 use lib.IntN.{ℤ, pos, negsuc, _-ℤ_}
 use lib.Signed.{ltZ, mag}
 use mir.Syntax.{w16}
 use mir.Val.{SFits}
 use borrow.Author.Tests.{le-ltb, lt-ltb}
-use mathlib.Core.Logic.{⊎-elim}
 use Rattle.wire.specs.Sixteen.{bits16Of, high16Of, low16Of, be16, signed16, read16Of, RoundTrip16}
 use Rattle.wire.proofs.BoolLaws.{le-or-lt}
 
@@ -81,11 +81,16 @@ read-fits : (hi lo : ℕ) → hi < 256 → lo < 256 → SFits w16 (read16Of hi l
 unfolding read16Of
 read-fits hi lo p q = signed-fits (hi * 256 + lo) (omega arith)
 
+least : (be16 (negsuc 32767) ≡ 128 ∷ 0 ∷ []) × (read16Of 128 0 ≡ negsuc 32767)
+unfolding read16Of
+least = (refl, refl)
+
 pub round-trip16 : RoundTrip16
 round-trip16 =
     record {
       read-written = read-written;
       written-read = written-read;
+      least = least;
       high-byte = λ v f. (let s = bits-small v f in omega arith);
       low-byte = λ v. omega arith;
       read-fits = read-fits;

@@ -1,8 +1,8 @@
 -- Tests over lists of numbers: every element, the numbers of a range, bytes.
 -- Assumes nothing.
-use Prim.Native.Nat.{ℕ, zero, suc}
 use mathlib.Core.Bool.{Bool, true, false, _&&_, _||_}
 use mathlib.Core.List.{List, [], _∷_}
+use Prim.Native.Nat.{ℕ, zero, suc, _-_}
 use lib.Dec.{leb, ltb, eqb}
 use lib.ListN.{length}
 
@@ -20,6 +20,10 @@ allFrom f lo (suc n) = f lo && allFrom f (suc lo) n
 abbrev pub span : ℕ → ℕ → List ℕ
 span a zero = []
 span a (suc n) = a ∷ span (suc a) n
+
+-- the numbers from a first to a last one
+abbrev pub fromTo : ℕ → ℕ → List ℕ
+fromTo first last = span first (suc last - first)
 
 -- k is one of the list's numbers
 abbrev pub among : List ℕ → ℕ → Bool

@@ -1,9 +1,9 @@
 -- Sixteen-bit numbers: two's complement, high byte first (document 01, under 'Commands at their last byte').
 -- Assumes nothing.
-use Prim.Native.Nat.{ℕ, _+_, _-_, _*_, _/_, _%_, _<_}
 use mathlib.Core.Path.{_≡_}
 use mathlib.Core.Bool.{cond}
 use mathlib.Core.List.{List, [], _∷_}
+use Prim.Native.Nat.{ℕ, _+_, _-_, _*_, _/_, _%_, _<_}
 use lib.Dec.{ltb}
 use lib.IntN.{ℤ, pos, negsuc}
 use mir.Syntax.{w16}
@@ -36,6 +36,8 @@ read16Of hi lo = signed16 (hi * 256 + lo)
 pub record RoundTrip16 : Type 0 where
   pub read-written : (v : ℤ) → SFits w16 v → read16Of (high16Of v) (low16Of v) ≡ v
   pub written-read : (hi lo : ℕ) → hi < 256 → lo < 256 → be16 (read16Of hi lo) ≡ hi ∷ lo ∷ []
+  -- the least value, which has no opposite
+  pub least : (be16 (negsuc 32767) ≡ 128 ∷ 0 ∷ []) × (read16Of 128 0 ≡ negsuc 32767)
   -- both bytes are bytes, and the number is one of i16
   pub high-byte : (v : ℤ) → SFits w16 v → high16Of v < 256
   pub low-byte : (v : ℤ) → low16Of v < 256

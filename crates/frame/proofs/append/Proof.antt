@@ -1,7 +1,7 @@
 -- `frame::append` meets its contract: the test says which case of `appendOf` holds.
 -- Assumes nothing.
-use borrow.Author.Tests.{le-leb, lt-leb}
 use borrow.Author.Needs.{needs}
+use borrow.Author.Tests.{le-leb, lt-leb}
 use Rattle.frame.proofs.append.Statement.{statement}
 use Rattle.frame.proofs.append.Tie as tie
 

@@ -3,8 +3,8 @@
 use mathlib.Core.Path.{sym, _∙_}
 use native.Mathlib.Omega.{arith}
 use lib.ListN.{getD}
-use mir.Val.{Fits}
 use mir.Syntax.{w8}
+use mir.Val.{Fits}
 use borrow.Author.Needs.{needs}
 use Rattle.frame.specs.Push.{bodySizeAs}
 use Rattle.frame.proofs.body_size.Statement.{statement}

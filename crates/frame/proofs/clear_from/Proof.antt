@@ -3,9 +3,9 @@
 use mathlib.Core.Path.{_≡_, refl, _∙_}
 use Prim.Native.Nat.{_-_, _<_, _≤_}
 use native.Mathlib.Omega.{arith}
+use lib.ListN.{length, drop, drop-of-length-le}
 use borrow.Author.Needs.{needs}
 use borrow.Author.Tests.{eq-eqb, ne-eqb}
-use lib.ListN.{length, drop, drop-of-length-le}
 use Rattle.wire.specs.Lists.{isZero, allZero}
 use Rattle.wire.proofs.ListsLaws.{all-next}
 use Rattle.frame.proofs.clear_from.Statement.{statement}

@@ -1,7 +1,7 @@
 -- `frame::measure` meets its contract: the test says which case of `measureOf` holds.
 -- Assumes nothing.
-use borrow.Author.Tests.{lt-ltb, le-ltb}
 use borrow.Author.Needs.{needs}
+use borrow.Author.Tests.{lt-ltb, le-ltb}
 use Rattle.frame.proofs.measure.Statement.{statement}
 use Rattle.frame.proofs.measure.Tie as tie
 

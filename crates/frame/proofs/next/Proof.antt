@@ -1,10 +1,10 @@
 -- `frame::next` meets its contract: the test is the one of `nextOf`.
 -- Assumes nothing.
 use mathlib.Core.Path.{sym, ap, _∙_}
+use borrow.Author.Needs.{needs}
 use Rattle.wire.proofs.BoolLaws.{cond-true, cond-false}
 use Rattle.frame.specs.Push.{emptyPartial, nextOf}
 use Rattle.frame.specs.declared.Pushed.{Pushed}
-use borrow.Author.Needs.{needs}
 use Rattle.frame.proofs.next.Statement.{statement}
 use Rattle.frame.proofs.next.Tie as tie
 

@@ -3,9 +3,9 @@
 use mathlib.Core.Path.{_≡_, sym, _∙_}
 use mathlib.Core.Bool.{cond}
 use mathlib.Core.Logic.{⊎-elim}
+use borrow.Author.Needs.{needs}
 use borrow.Author.Tests.{eq-eqb, ne-eqb}
 use Rattle.frame.specs.Push.{appendOf, storesBody}
-use borrow.Author.Needs.{needs}
 use Rattle.frame.proofs.push.Statement.{statement}
 use Rattle.frame.proofs.push.Tie as tie
 

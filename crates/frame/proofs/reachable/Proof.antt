@@ -2,17 +2,16 @@
 -- Assumes nothing.
 use mathlib.Core.Path.{_≡_, sym, _∙_}
 use mathlib.Core.Bool.{true, cond}
-use Prim.Native.Nat.{ℕ, _-_, _<_}
+use Prim.Native.Nat.{ℕ, _<_}
 use native.Mathlib.Omega.{arith}
-use lib.Dec.{eqb}
 use lib.ListN.{length, getD}
-use mir.Val.{Fits}
 use mir.Syntax.{w8}
-use borrow.Author.Tests.{lt-ltb, le-ltb, le-leb, lt-leb, eq-eqb, ne-eqb, not-true, not-false}
+use mir.Val.{Fits}
 use borrow.Author.Needs.{needs}
+use borrow.Author.Tests.{lt-ltb, le-ltb, le-leb, lt-leb, eq-eqb, ne-eqb, not-true, not-false}
 use Rattle.wire.proofs.ListsLaws.{bytes-true}
-use Rattle.frame.specs.Push.{headerOf, bodySize, storesBody}
-use Rattle.frame.specs.Reach.{isArray, remainingRight, bodyBegun, reachableOf}
+use Rattle.frame.specs.Push.{storesBody}
+use Rattle.frame.specs.Reach.{isArray, remainingRight, bodyStored, headerAlone, bodyBegun, reachableOf}
 use Rattle.frame.proofs.reachable.Statement.{statement}
 use Rattle.frame.proofs.reachable.Tie as tie
 
@@ -33,7 +32,7 @@ header c = unused (c .before .before) ∙ simp (le-ltb _ _ (rw (c .before .heade
 
 body : (c : tie.Else4)
     → let p = c .before .before .before .before .before .before .before .before .args .p in
-    reachableOf p ≡ cond (storesBody (p .bytes)) (eqb (p .count - headerOf (p .bytes)) (bodySize (p .bytes) - p .remaining)) (eqb (p .count) (headerOf (p .bytes)))
+    reachableOf p ≡ cond (storesBody (p .bytes)) (bodyStored p) (headerAlone p)
 body c =
     header (c .before .before .before)
     ∙ simp (ne-eqb _ _ (c .before .before .if3 .left), le-leb _ _ (rw (c .before .body-size .ensures) at (c .if4 .left)))

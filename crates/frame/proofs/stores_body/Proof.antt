@@ -1,8 +1,8 @@
 -- `frame::stores_body` meets its contract: each arm knows the length.
 -- Assumes nothing.
 use mathlib.Core.Path.{sym, _∙_}
-use borrow.Author.Tests.{ne-eqb, eq-eqb}
 use borrow.Author.Needs.{needs}
+use borrow.Author.Tests.{ne-eqb, eq-eqb}
 use Rattle.frame.proofs.stores_body.Statement.{statement}
 use Rattle.frame.proofs.stores_body.Tie as tie
 

@@ -5,9 +5,9 @@ use mathlib.Core.Bool.{true, false}
 use native.Mathlib.Omega.{arith}
 use lib.IntN.{ℤ, pos, negsuc, _-ℤ_, natAbs}
 use lib.Signed.{ltZ, mag}
+use mir.Facts.{toZ-ofZ, toZ-pos}
 use mir.Syntax.{w16}
 use mir.Val.{toZ, ofZ, SFits}
-use mir.Facts.{toZ-ofZ, toZ-pos}
 use Rattle.wire.specs.Sixteen.{bits16Of}
 use Rattle.wire.proofs.SixteenLaws.{flip-neg, below-zero, not-below-zero}
 use Rattle.wire.proofs.bits16.Statement.{statement}

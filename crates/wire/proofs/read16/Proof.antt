@@ -3,11 +3,11 @@
 use mathlib.Core.Path.{_≡_, sym, ap, _∙_}
 use Prim.Native.Nat.{ℕ, _+_, _-_, _*_, _<_}
 use native.Mathlib.Omega.{arith}
-use borrow.Author.Needs.{needs}
 use lib.IntN.{ℤ, negsuc, _-ℤ_}
+use mir.Facts.{toZ-ofZ, toZ-pos}
 use mir.Syntax.{w16}
 use mir.Val.{toZ, ofZ}
-use mir.Facts.{toZ-ofZ, toZ-pos}
+use borrow.Author.Needs.{needs}
 use Rattle.wire.specs.Sixteen.{read16Of}
 use Rattle.wire.proofs.SixteenLaws.{flip-pos, signed-low, signed-high}
 use Rattle.wire.proofs.read16.Statement.{statement}
