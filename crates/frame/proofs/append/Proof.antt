@@ -8,14 +8,8 @@ use Rattle.frame.proofs.append.Tie as tie
 returns : tie.Need-returns
 returns c = simp (le-leb _ _ (c .if1 .taken))
 
-element-write-q : tie.Need-element-write-q
-element-write-q c = search needs
-
-add-q : tie.Need-add-q
-add-q c = search needs
-
 returns-2 : tie.Need-returns-2
 returns-2 c = simp (lt-leb _ _ (c .if1 .left))
 
 pub append-spec : {M : Type 1} → statement M
-append-spec = tie.close (tie.spec returns element-write-q add-q returns-2)
+append-spec = tie.close (tie.spec returns (λ c. search needs) (λ c. search needs) returns-2)

@@ -10,38 +10,8 @@ use Rattle.frame.specs.Push.{bodySizeAs}
 use Rattle.frame.proofs.body_size.Statement.{statement}
 use Rattle.frame.proofs.body_size.Tie as tie
 
-array-read-data-length : tie.Need-array-read-data-length
-array-read-data-length c = search needs
-
-data-length-requires : tie.Need-data-length-requires
-data-length-requires c κs = search needs
-
-enum-known-n : tie.Need-enum-known-n
-enum-known-n c = search needs
-
-enum-told : tie.Need-enum-told
-enum-told c = search needs
-
-array-read-result : tie.Need-array-read-result
-array-read-result c = search needs
-
-cast-result : tie.Need-cast-result
-cast-result c = search needs
-
-enum-told-2 : tie.Need-enum-told-2
-enum-told-2 c = search needs
-
-array-read-result-2 : tie.Need-array-read-result-2
-array-read-result-2 c = search needs
-
-cast-result-2 : tie.Need-cast-result-2
-cast-result-2 c = search needs
-
 mul-result : tie.Need-mul-result
 mul-result c = let h : Fits w8 (getD (c .before .before .before .args .t1) 2 0) = search needs in omega arith
-
-enum-told-3 : tie.Need-enum-told-3
-enum-told-3 c = search needs
 
 returns : tie.Need-returns
 unfolding bodySizeAs
@@ -63,17 +33,17 @@ pub body-size-spec : {M : Type 1} → statement M
 body-size-spec =
     tie.close
     (tie.spec
-    array-read-data-length
-    data-length-requires
-    enum-known-n
-    enum-told
-    array-read-result
-    cast-result
-    enum-told-2
-    array-read-result-2
-    cast-result-2
+    (λ c. search needs)
+    (λ c κs. search needs)
+    (λ c. search needs)
+    (λ c. search needs)
+    (λ c. search needs)
+    (λ c. search needs)
+    (λ c. search needs)
+    (λ c. search needs)
+    (λ c. search needs)
     mul-result
-    enum-told-3
+    (λ c. search needs)
     returns
     returns-2
     returns-3

@@ -5,21 +5,6 @@ use borrow.Author.Needs.{needs}
 use Rattle.frame.proofs.header_size.Statement.{statement}
 use Rattle.frame.proofs.header_size.Tie as tie
 
-data-length-requires : tie.Need-data-length-requires
-data-length-requires c κs = search needs
-
-enum-told : tie.Need-enum-told
-enum-told c = search needs
-
-enum-told-2 : tie.Need-enum-told-2
-enum-told-2 c = search needs
-
-enum-told-3 : tie.Need-enum-told-3
-enum-told-3 c = search needs
-
-enum-told-4 : tie.Need-enum-told-4
-enum-told-4 c = search needs
-
 returns : tie.Need-returns
 returns c = simp (sym (c .before .before .data-length .ensures) ∙ c .enum-told .given .1)
 
@@ -36,11 +21,11 @@ pub header-size-spec : {M : Type 1} → statement M
 header-size-spec =
     tie.close
     (tie.spec
-    data-length-requires
-    enum-told
-    enum-told-2
-    enum-told-3
-    enum-told-4
+    (λ c κs. search needs)
+    (λ c. search needs)
+    (λ c. search needs)
+    (λ c. search needs)
+    (λ c. search needs)
     returns
     returns-2
     returns-3

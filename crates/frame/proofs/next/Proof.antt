@@ -8,12 +8,6 @@ use Rattle.frame.specs.declared.Pushed.{Pushed}
 use Rattle.frame.proofs.next.Statement.{statement}
 use Rattle.frame.proofs.next.Tie as tie
 
-push-requires : tie.Need-push-requires
-push-requires c κs = search needs
-
-empty-requires : tie.Need-empty-requires
-empty-requires c κs = search needs
-
 returns : tie.Need-returns
 unfolding nextOf
 returns c =
@@ -27,4 +21,4 @@ returns-2 c =
     ap (λ (x : Pushed). x .partial) f ∙ sym (cond-false _ emptyPartial _ (ap (λ (x : Pushed). x .complete) (sym f) ∙ c .before .if1 .left))
 
 pub next-spec : {M : Type 1} → statement M
-next-spec = tie.close (tie.spec push-requires empty-requires returns returns-2)
+next-spec = tie.close (tie.spec (λ c κs. search needs) (λ c κs. search needs) returns returns-2)

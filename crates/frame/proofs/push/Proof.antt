@@ -9,23 +9,8 @@ use Rattle.frame.specs.Push.{appendOf, storesBody}
 use Rattle.frame.proofs.push.Statement.{statement}
 use Rattle.frame.proofs.push.Tie as tie
 
-append-requires : tie.Need-append-requires
-append-requires c κs = search needs
-
-measure-requires : tie.Need-measure-requires
-measure-requires c κs = search needs
-
 returns : tie.Need-returns
 returns c = simp (c .measure .ensures, c .before .append .ensures, eq-eqb _ _ (c .before .before .if1 .taken))
-
-stores-body-requires : tie.Need-stores-body-requires
-stores-body-requires c κs = search needs
-
-append-requires-2 : tie.Need-append-requires-2
-append-requires-2 c κs = search needs
-
-sub-t12 : tie.Need-sub-t12
-sub-t12 c = search needs
 
 joined : (c : tie.Joined2) → let a = c .before .before .before .before .args in c .if2 .q ≡ cond (storesBody (a .p .bytes)) (appendOf (a .p) (a .b)) (a .p)
 joined c =
@@ -40,10 +25,10 @@ pub push-spec : {M : Type 1} → statement M
 push-spec =
     tie.close
     (tie.spec
-    append-requires
-    measure-requires
+    (λ c κs. search needs)
+    (λ c κs. search needs)
     returns
-    stores-body-requires
-    append-requires-2
-    sub-t12
+    (λ c κs. search needs)
+    (λ c κs. search needs)
+    (λ c. search needs)
     returns-2)

@@ -37,18 +37,9 @@ body c =
     header (c .before .before .before)
     ∙ simp (ne-eqb _ _ (c .before .before .if3 .left), le-leb _ _ (rw (c .before .body-size .ensures) at (c .if4 .left)))
 
-clear-from-requires : tie.Need-clear-from-requires
-clear-from-requires c κs = search needs
-
 returns : tie.Need-returns
 unfolding reachableOf
 returns c = simp (array (c .before .before .before), sym (c .before .clear-from .ensures) ∙ not-true _ (c .if1 .taken))
-
-array-read-op : tie.Need-array-read-op
-array-read-op c = search needs
-
-header-size-requires : tie.Need-header-size-requires
-header-size-requires c κs = search needs
 
 returns-2 : tie.Need-returns-2
 returns-2 c = sym (unused (c .before .before) ∙ simp (lt-ltb _ _ (rw (c .before .header-size .ensures) at (c .if2 .taken))))
@@ -56,17 +47,11 @@ returns-2 c = sym (unused (c .before .before) ∙ simp (lt-ltb _ _ (rw (c .befor
 returns-3 : tie.Need-returns-3
 returns-3 c = sym (header (c .before) ∙ simp (eq-eqb _ _ (c .if3 .taken)))
 
-body-size-requires : tie.Need-body-size-requires
-body-size-requires c κs = search needs
-
 returns-4 : tie.Need-returns-4
 returns-4 c =
     sym
     (header (c .before .before .before)
     ∙ simp (ne-eqb _ _ (c .before .before .if3 .left), lt-leb _ _ (rw (c .before .body-size .ensures) at (c .if4 .taken))))
-
-stores-body-requires : tie.Need-stores-body-requires
-stores-body-requires c κs = search needs
 
 returns-5 : tie.Need-returns-5
 returns-5 c =
@@ -84,14 +69,14 @@ pub reachable-spec : {M : Type 1} → statement M
 reachable-spec =
     tie.close
     (tie.spec
-    clear-from-requires
+    (λ c κs. search needs)
     returns
-    array-read-op
-    header-size-requires
+    (λ c. search needs)
+    (λ c κs. search needs)
     returns-2
     returns-3
-    body-size-requires
+    (λ c κs. search needs)
     returns-4
-    stores-body-requires
+    (λ c κs. search needs)
     returns-5
     returns-6)

@@ -6,30 +6,6 @@ use borrow.Author.Tests.{ne-eqb, eq-eqb}
 use Rattle.frame.proofs.stores_body.Statement.{statement}
 use Rattle.frame.proofs.stores_body.Tie as tie
 
-array-read-op : tie.Need-array-read-op
-array-read-op c = search needs
-
-data-length-requires : tie.Need-data-length-requires
-data-length-requires c κs = search needs
-
-enum-told : tie.Need-enum-told
-enum-told c = search needs
-
-enum-told-2 : tie.Need-enum-told-2
-enum-told-2 c = search needs
-
-array-read-result : tie.Need-array-read-result
-array-read-result c = search needs
-
-enum-told-3 : tie.Need-enum-told-3
-enum-told-3 c = search needs
-
-array-read-result-2 : tie.Need-array-read-result-2
-array-read-result-2 c = search needs
-
-enum-told-4 : tie.Need-enum-told-4
-enum-told-4 c = search needs
-
 returns : tie.Need-returns
 returns c = simp (sym (c .before .before .data-length .ensures) ∙ c .enum-told .given .1)
 
@@ -49,14 +25,14 @@ pub stores-body-spec : {M : Type 1} → statement M
 stores-body-spec =
     tie.close
     (tie.spec
-    array-read-op
-    data-length-requires
-    enum-told
-    enum-told-2
-    array-read-result
-    enum-told-3
-    array-read-result-2
-    enum-told-4
+    (λ c. search needs)
+    (λ c κs. search needs)
+    (λ c. search needs)
+    (λ c. search needs)
+    (λ c. search needs)
+    (λ c. search needs)
+    (λ c. search needs)
+    (λ c. search needs)
     returns
     returns-2
     returns-3

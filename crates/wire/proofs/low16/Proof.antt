@@ -8,14 +8,8 @@ use Rattle.wire.specs.Sixteen.{bits16Of}
 use Rattle.wire.proofs.low16.Statement.{statement}
 use Rattle.wire.proofs.low16.Tie as tie
 
-bits16-requires : tie.Need-bits16-requires
-bits16-requires c κs = search needs
-
-cast-result : tie.Need-cast-result
-cast-result c = search needs
-
 returns : tie.Need-returns
 returns c = ap (λ (n : ℕ). n % 256) (c .bits16 .ensures ∙ ap bits16Of (toZ-ofZ (c .before .fits .v)))
 
 pub low16-spec : {M : Type 1} → statement M
-low16-spec = tie.close (tie.spec bits16-requires cast-result returns)
+low16-spec = tie.close (tie.spec (λ c κs. search needs) (λ c. search needs) returns)

@@ -16,24 +16,9 @@ use Rattle.wire.proofs.read16.Tie as tie
 flipped : (m : ℕ) → m < 32768 → negsuc 0 -ℤ toZ w16 m ≡ negsuc m
 flipped m h = rw (toZ-pos w16 h) (flip-pos m)
 
-mul-n : tie.Need-mul-n
-mul-n c = search needs
-
-add-n : tie.Need-add-n
-add-n c = search needs
-
-cast-result : tie.Need-cast-result
-cast-result c = search needs
-
 returns : tie.Need-returns
 unfolding read16Of
 returns c = toZ-pos w16 (c .if1 .taken) ∙ sym (signed-low _ (c .if1 .taken))
-
-sub-m : tie.Need-sub-m
-sub-m c = search needs
-
-cast-m : tie.Need-cast-m
-cast-m c = search needs
 
 sub-result : tie.Need-sub-result
 sub-result c =
@@ -48,4 +33,4 @@ returns-2 c =
     ∙ toZ-ofZ {w = w16} {z = negsuc (65535 - n)} (record { sfits = omega arith }) ∙ sym (signed-high n (c .if1 .left))
 
 pub read16-spec : {M : Type 1} → statement M
-read16-spec = tie.close (tie.spec mul-n add-n cast-result returns sub-m cast-m sub-result returns-2)
+read16-spec = tie.close (tie.spec (λ c. search needs) (λ c. search needs) (λ c. search needs) returns (λ c. search needs) (λ c. search needs) sub-result returns-2)
