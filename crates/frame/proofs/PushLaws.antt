@@ -4,16 +4,16 @@ use mathlib.Core.Path.{_≡_, refl, sym, ap, ap₂, subst, _∙_}
 use mathlib.Core.Bool.{Bool, true, false, not}
 use mathlib.Core.List.{List, [], _∷_, _++_}
 use mathlib.Core.Logic.{⊎-elim}
-use Prim.Native.Nat.{ℕ, zero, suc, _+_, _-_, _*_, _≤_, _<_}
+use Prim.Native.Nat.{ℕ, suc, _+_, _-_, _≤_, _<_}
 use native.Mathlib.Nat.{eq-zero-or-pos, eq-or-lt-of-le}
 use native.Mathlib.Omega.{arith}
-use lib.Dec.{T, leb, eqb, leb→le, leb·zero, leb·suc-suc}
+use lib.Dec.{T, leb, eqb, leb→le}
 use lib.ListN.{length, getD, set, replicate}
 use lib.Seq.{getD-set-other}
 use mir.Facts.{and-yes}
 use borrow.Author.Tests.{lt-leb, lt-ltb, le-ltb, eq-eqb, ne-eqb}
 use Rattle.wire.specs.Lists.{allBytes}
-use Rattle.wire.proofs.BoolLaws.{to-T, cond-true, cond-false}
+use Rattle.wire.proofs.BoolLaws.{to-T, cond-true, cond-false, pos-eqb}
 use Rattle.wire.proofs.ListsLaws.{byte-at}
 use Rattle.frame.specs.FrameTable.{dataLength, dataBytes, headerSize}
 use Rattle.frame.specs.Push.{frameSizeAs, frameSize, bodySizeAs, storesBodyAs, lengthOf, headerOf, bodySize, storesBody, measureOf, bodyByteOf, pushOf, emptyPartial, nextOf, afterOf, opcodes}
@@ -138,15 +138,15 @@ push-header p b e a = simp (eq-eqb _ _ e, lt-leb 35 (p .count) a)
 
 pub push-stored : (p : Partial) (b : ℕ) → 0 < p .remaining → storesBody (p .bytes) ≡ true → p .count < 35
     → pushOf p b ≡ record { partial = grown p b (p .remaining - 1); complete = eqb (p .remaining) 1 }
-push-stored p b h k a = simp (ne-eqb (p .remaining) 0 (λ (e : p .remaining ≡ 0). omega arith), k, lt-leb 35 (p .count) a)
+push-stored p b h k a = simp (pos-eqb _ h, k, lt-leb 35 (p .count) a)
 
 pub push-skipped : (p : Partial) (b : ℕ) → 0 < p .remaining → storesBody (p .bytes) ≡ false
     → pushOf p b ≡ record { partial = record { bytes = p .bytes; count = p .count; remaining = p .remaining - 1 }; complete = eqb (p .remaining) 1 }
-push-skipped p b h k = simp (ne-eqb (p .remaining) 0 (λ (e : p .remaining ≡ 0). omega arith), k)
+push-skipped p b h k = simp (pos-eqb _ h, k)
 
 -- while bytes remain, of any partial frame: the byte is one of the body
 pub push-body : (p : Partial) (b : ℕ) → 0 < p .remaining → pushOf p b ≡ bodyByteOf p b
-push-body p b h = simp (ne-eqb (p .remaining) 0 (λ (e : p .remaining ≡ 0). omega arith))
+push-body p b h = simp (pos-eqb _ h)
 
 -- ---- next
 
@@ -177,18 +177,14 @@ pub after-append : (p : Partial) (bs cs : List ℕ) → afterOf p (bs ++ cs) ≡
 after-append p [] cs = refl
 after-append p (b ∷ bs) cs = after-append (nextOf p b) bs cs
 
-pub leb-pred : (m k : ℕ) → leb (m - 1) k ≡ leb m (suc k)
-leb-pred zero k = leb·zero k ∙ sym (leb·zero (suc k))
-leb-pred (suc m) k = let e : suc m - 1 ≡ m = omega arith in ap (λ (n : ℕ). leb n k) e ∙ sym (leb·suc-suc m k)
-
 -- ---- bytes that remain, of any partial frame and of any values
 
 pub not-opcodes : (p : Partial) (bs : List ℕ) → 0 < p .remaining → length bs ≤ p .remaining → opcodes p bs ≡ replicate (length bs) false
 not-opcodes p [] h a = refl
-not-opcodes p (b ∷ []) h a = simp (ne-eqb (p .remaining) 0 (λ (e : p .remaining ≡ 0). omega arith))
+not-opcodes p (b ∷ []) h a = simp (pos-eqb _ h)
 not-opcodes p (b ∷ (c ∷ bs)) h a =
     let r = next-remaining p b h in
-    simp (ne-eqb (p .remaining) 0 (λ (e : p .remaining ≡ 0). omega arith))
+    simp (pos-eqb _ h)
     (ap (λ (l : List Bool). false ∷ l) (not-opcodes (nextOf p b) (c ∷ bs) (omega arith) (omega arith)))
 
 pub still-remain : (p : Partial) (bs : List ℕ) → length bs < p .remaining → afterOf p bs .remaining ≡ p .remaining - length bs
@@ -218,7 +214,7 @@ finishes-known p q b [] e l =
     record { not-opcode = refl; empty-after = next-complete p b (ap (λ (x : Pushed). x .complete) e ∙ eq-eqb (q .remaining) 0 (sym l)) }
 finishes-known p q b (d ∷ ds) e l =
     subst (λ (r : Partial). Finishes r (d ∷ ds))
-    (sym (next-more p b _ e (ne-eqb (q .remaining) 0 (λ (z : q .remaining ≡ 0). omega arith))))
+    (sym (next-more p b _ e (pos-eqb (q .remaining) (omega arith))))
     (record { not-opcode = not-opcodes q (d ∷ ds) (omega arith) (omega arith); empty-after = then-empty q (d ∷ ds) (omega arith) l })
 
 -- a byte after which the header wants another
@@ -228,7 +224,7 @@ finishes-more p q b d ds e z h f =
     subst (λ (r : Partial). Finishes r (d ∷ ds)) (sym (next-more p b _ e refl))
     (record {
       not-opcode =
-          simp (eq-eqb (q .remaining) 0 z, ne-eqb (q .count) 0 (λ (x : q .count ≡ 0). omega arith))
+          simp (eq-eqb _ _ z, pos-eqb _ h)
           (ap (λ (l : List Bool). false ∷ l) (f .not-opcode));
       empty-after = f .empty-after;
     })
@@ -239,18 +235,18 @@ begunBy bs n m = record { bytes = bs ++ replicate (35 - n) 0; count = n; remaini
 
 finishes-as : (l : Length) (op : ℕ) (ds : List ℕ) → dataLength op ≡ l → length ds ≡ dataBytes l (op ∷ ds) → Finishes (nextOf emptyPartial op) ds
 unfolding bodySizeAs
-finishes-as (Fixed n) op ds e a = finishes-known emptyPartial (begunBy (op ∷ []) 1 (1 + n - 1)) op ds (simp e) (omega arith)
+finishes-as (Fixed n) op ds e a = finishes-known emptyPartial (begunBy (op ∷ []) 1 (bodySizeAs (Fixed n) [])) op ds (simp e) (omega arith)
 finishes-as Unknown op ds e a = finishes-known emptyPartial (begunBy (op ∷ []) 1 0) op ds (simp e) a
 finishes-as Counted op [] e a = absurd (omega arith)
 finishes-as Counted op (n ∷ ds) e a =
     finishes-more emptyPartial (begunBy (op ∷ []) 1 0) op n ds (simp e) refl (omega arith)
-    (finishes-known (begunBy (op ∷ []) 1 0) (begunBy (op ∷ n ∷ []) 2 (1 + (1 + n) - 2)) n ds (simp e) (omega arith))
+    (finishes-known (begunBy (op ∷ []) 1 0) (begunBy (op ∷ n ∷ []) 2 (bodySizeAs Counted (op ∷ n ∷ []))) n ds (simp e) (omega arith))
 finishes-as Song op [] e a = absurd (omega arith)
 finishes-as Song op (s ∷ []) e a = absurd (omega arith)
 finishes-as Song op (s ∷ (n ∷ ds)) e a =
     finishes-more emptyPartial (begunBy (op ∷ []) 1 0) op s (n ∷ ds) (simp e) refl (omega arith)
     (finishes-more (begunBy (op ∷ []) 1 0) (begunBy (op ∷ s ∷ []) 2 0) s n ds (simp e) refl (omega arith)
-    (finishes-known (begunBy (op ∷ s ∷ []) 2 0) (begunBy (op ∷ s ∷ n ∷ []) 3 (1 + (2 + 2 * n) - 3)) n ds (simp e) (omega arith)))
+    (finishes-known (begunBy (op ∷ s ∷ []) 2 0) (begunBy (op ∷ s ∷ n ∷ []) 3 (bodySizeAs Song (op ∷ s ∷ n ∷ []))) n ds (simp e) (omega arith)))
 
 -- an opcode and its data bytes
 pub finishes : (op : ℕ) (ds : List ℕ) → length ds ≡ dataBytes (dataLength op) (op ∷ ds) → Finishes (nextOf emptyPartial op) ds

@@ -5,15 +5,15 @@ use mathlib.Core.Bool.{Bool, true, false, not, cond, _&&_}
 use mathlib.Core.List.{List, [], _∷_}
 use mathlib.Core.Logic.{⊎-elim}
 use Prim.Native.Nat.{ℕ, _+_, _-_, _≤_, _<_}
-use native.Mathlib.Nat.{eq-or-lt-of-le}
+use native.Mathlib.Nat.{eq-zero-or-pos, eq-or-lt-of-le}
 use native.Mathlib.Omega.{arith}
 use lib.Dec.{T, ltb, eqb, eqb→eq, leb→le, ltb→lt}
 use lib.ListN.{length, set, drop, replicate, length-set}
 use lib.Seq.{drop-set-lt}
 use mir.Facts.{and-yes, yes-and, yes-eqb}
-use borrow.Author.Tests.{ltb-true, ltb-false, eqb-false, not-true, lt-ltb, le-ltb, le-leb, eq-eqb, ne-eqb}
+use borrow.Author.Tests.{ltb-true, ltb-false, eqb-false, not-true, lt-ltb, le-ltb, le-leb, eq-eqb}
 use Rattle.wire.specs.Lists.{isZero, isByte, allZero, allBytes}
-use Rattle.wire.proofs.BoolLaws.{is-true, to-T, cond-cases, not-zero}
+use Rattle.wire.proofs.BoolLaws.{is-true, to-T, cond-cases, not-zero, pos-eqb}
 use Rattle.wire.proofs.ListsLaws.{bytes-set, all-later, zeros-are}
 use Rattle.frame.specs.FrameTable.{dataLength}
 use Rattle.frame.specs.Push.{lengthOf, headerOf, bodySize, storesBody, measureOf, pushOf, emptyPartial, nextOf, afterOf}
@@ -69,9 +69,9 @@ module _ (p : Partial) where
   remaining-right : Stage p → remainingRight p ≡ true
   remaining-right (in-header a e) = simp (lt-ltb _ _ a, eq-eqb _ _ e)
   remaining-right (storing a h r k e) =
-      simp (le-ltb _ _ a, ne-eqb (p .remaining) 0 (λ (q : p .remaining ≡ 0). omega arith), le-leb _ _ r, k, eq-eqb _ _ e)
+      simp (le-ltb _ _ a, pos-eqb _ h, le-leb _ _ r, k, eq-eqb _ _ e)
   remaining-right (skipping h r k e) =
-      simp (le-ltb (p .count) (headerOf (p .bytes)) (omega arith), ne-eqb (p .remaining) 0 (λ (q : p .remaining ≡ 0). omega arith), le-leb _ _ r, k, eq-eqb _ _ e)
+      simp (le-ltb (p .count) (headerOf (p .bytes)) (omega arith), pos-eqb _ h, le-leb _ _ r, k, eq-eqb _ _ e)
 
   pub of-facts : Places (p .bytes) (p .count) → Stage p → T (reachableOf p)
   unfolding reachableOf
@@ -98,6 +98,20 @@ empty-is p t e =
 pub empty-reachable : T (reachableOf emptyPartial)
 unfolding reachableOf dataLength
 empty-reachable = tt
+
+-- where a reachable frame stands: nothing is read; past the opcode, and the length is not known; in the body
+pub data Position (p : Partial) : Type 0 where
+  at-start : p ≡ emptyPartial → Position p
+  past-opcode : p .remaining ≡ 0 → 0 < p .count → p .count < headerOf (p .bytes) → Position p
+  in-body : 0 < p .remaining → Position p
+
+pub position-of : (p : Partial) → T (reachableOf p) → Position p
+position-of p t = at (stage-of p t)
+  where
+    at : Stage p → Position p
+    at (storing a h r k e) = in-body h
+    at (skipping h r k e) = in-body h
+    at (in-header a z) = ⊎-elim (λ (e : p .count ≡ 0). at-start (empty-is p t e)) (λ (h : 0 < p .count). past-opcode z h a) (eq-zero-or-pos (p .count))
 
 -- ---- a byte keeps `reachableOf`
 

@@ -5,7 +5,7 @@ use mathlib.Core.Bool.{Bool, false, not, _||_}
 use mathlib.Core.List.{List, [], _∷_}
 use mathlib.Core.Logic.{⊎-elim}
 use Prim.Native.Nat.{ℕ, zero, suc, _+_, _-_, _≤_, _<_, zero-le}
-use native.Mathlib.Nat.{eq-zero-or-pos, eq-or-lt-of-le, le-of-suc-le-suc}
+use native.Mathlib.Nat.{eq-or-lt-of-le, le-of-suc-le-suc}
 use native.Mathlib.Omega.{arith}
 use lib.Dec.{T, leb, ltb, eqb, eqb→eq}
 use lib.ListN.{length, getD, set, replicate}
@@ -13,7 +13,7 @@ use lib.Seq.{getD-set-same}
 use mir.Facts.{yes-ltb}
 use borrow.Author.Tests.{le-leb, lt-leb, eq-eqb, ne-eqb}
 use Rattle.wire.specs.Lists.{all, allFrom}
-use Rattle.wire.proofs.BoolLaws.{implied}
+use Rattle.wire.proofs.BoolLaws.{implied, pos-eqb, leb-pred}
 use Rattle.wire.proofs.ListsLaws.{from, byte-at}
 use Rattle.frame.specs.FrameTable.{dataLength, headerSize}
 use Rattle.frame.specs.Push.{bodySizeAs, lengthOf, headerOf, bodySize, measureOf, pushOf, emptyPartial, nextOf, beginsFrame, opcodes}
@@ -23,8 +23,8 @@ use Rattle.frame.specs.declared.Length.{Length}
 use Rattle.frame.specs.declared.Length.the-variants.{Fixed, Counted, Song, Unknown}
 use Rattle.frame.specs.declared.Partial.{Partial}
 use Rattle.frame.specs.declared.Pushed.{Pushed}
-use Rattle.frame.proofs.PushLaws.{header-le, body-le, opcode-set, length-set, grown, measure-waits, measure-known, push-header, push-body, next-more, next-last, next-remaining, leb-pred}
-use Rattle.frame.proofs.ReachLaws.{Stage, in-header, storing, skipping, places-of, stage-of, empty-is, next-reachable}
+use Rattle.frame.proofs.PushLaws.{header-le, body-le, opcode-set, length-set, grown, measure-waits, measure-known, push-header, push-body, next-more, next-last, next-remaining}
+use Rattle.frame.proofs.ReachLaws.{Stage, in-header, storing, skipping, places-of, stage-of, Position, at-start, past-opcode, in-body, position-of, next-reachable}
 
 -- each row, run
 pub rows-run : T (all rowRuns runTable)
@@ -40,7 +40,7 @@ waits-empty = refl
 -- while bytes remain, of any partial frame
 pub waits-remaining : (p : Partial) → 0 < p .remaining → waits p ≡ p .remaining
 unfolding waits
-waits-remaining p h = simp (ne-eqb (p .remaining) 0 (λ (e : p .remaining ≡ 0). omega arith)) (omega arith)
+waits-remaining p h = simp (pos-eqb _ h) (omega arith)
 
 -- the body's size where the count byte is a 128
 abbrev body128 : Length → ℕ
@@ -145,7 +145,7 @@ module _ (p : Partial) (t : T (reachableOf p)) (z : p .remaining ≡ 0) (h : 0 <
       let l : headerOf after128 ≤ p .count + 1 = rw same-length (omega arith) in
       steps-by p (grown p 128 n)
       (pushed ∙ measure-known (grown p 128 (p .remaining)) l
-      ∙ ap (λ (c : Bool). record { partial = grown p 128 n; complete = c }) (ne-eqb n 0 (λ (x : n ≡ 0). omega arith)))
+      ∙ ap (λ (c : Bool). record { partial = grown p 128 n; complete = c }) (pos-eqb n (omega arith)))
       (omega arith)
       (waits-remaining (grown p 128 n) (omega arith) ∙ omega arith)
 
@@ -183,35 +183,23 @@ steps-body p h =
     )
 
 pub steps : (p : Partial) → T (reachableOf p) → Steps p
-steps p t = at (stage-of p t)
+steps p t = at (position-of p t)
   where
-    at : Stage p → Steps p
-    at (storing a h r k e) = steps-body p h
-    at (skipping h r k e) = steps-body p h
-    at (in-header a z) =
-        ⊎-elim (λ (e : p .count ≡ 0). subst Steps (sym (empty-is p t e)) steps-empty) (λ (h : 0 < p .count). steps-header p t z h a)
-        (eq-zero-or-pos (p .count))
+    at : Position p → Steps p
+    at (at-start e) = subst Steps (sym e) steps-empty
+    at (past-opcode z h a) = steps-header p t z h a
+    at (in-body h) = steps-body p h
 
 -- ---- which bytes of a run are opcodes
 
 -- the next byte is an opcode exactly where none is waited for
 pub begins-waits : (p : Partial) → T (reachableOf p) → beginsFrame p ≡ leb (waits p) 0
-begins-waits p t = at (stage-of p t)
+begins-waits p t = at (position-of p t)
   where
-    in-body : 0 < p .remaining → beginsFrame p ≡ leb (waits p) 0
-    in-body h =
-        let w = waits-remaining p h in
-        simp (ne-eqb (p .remaining) 0 (λ (e : p .remaining ≡ 0). omega arith)) (sym (lt-leb (waits p) 0 (omega arith)))
-
-    at : Stage p → beginsFrame p ≡ leb (waits p) 0
-    at (storing a h r k e) = in-body h
-    at (skipping h r k e) = in-body h
-    at (in-header a z) =
-        ⊎-elim (λ (e : p .count ≡ 0). subst (λ (q : Partial). beginsFrame q ≡ leb (waits q) 0) (sym (empty-is p t e)) (ap (λ (n : ℕ). leb n 0) (sym waits-empty)))
-        (λ (h : 0 < p .count).
-        let w = waits-now p t z h a in
-        simp (eq-eqb (p .remaining) 0 z, ne-eqb (p .count) 0 (λ (e : p .count ≡ 0). omega arith)) (sym (lt-leb (waits p) 0 (omega arith))))
-        (eq-zero-or-pos (p .count))
+    at : Position p → beginsFrame p ≡ leb (waits p) 0
+    at (at-start e) = subst (λ (q : Partial). beginsFrame q ≡ leb (waits q) 0) (sym e) (ap (λ (n : ℕ). leb n 0) (sym waits-empty))
+    at (past-opcode z h a) = let w = waits-now p t z h a in simp (eq-eqb _ _ z, pos-eqb _ h) (sym (lt-leb (waits p) 0 (omega arith)))
+    at (in-body h) = let w = waits-remaining p h in simp (pos-eqb _ h) (sym (lt-leb (waits p) 0 (omega arith)))
 
 pub opcode-at : (n k : ℕ) (p : Partial) → T (reachableOf p) → k < n → getD (opcodes p (replicate n 128)) k false ≡ leb (waits p) k
 opcode-at zero k p t a = absurd (omega arith)
@@ -231,15 +219,9 @@ remaining-le p t = at (stage-of p t)
     at (skipping h r k e) = let b = body-le (p .bytes) (places-of p t .small) in omega arith
 
 pub waits-le : (p : Partial) → T (reachableOf p) → waits p ≤ 510
-waits-le p t = at (stage-of p t)
+waits-le p t = at (position-of p t)
   where
-    in-body : 0 < p .remaining → waits p ≤ 510
-    in-body h = let w = waits-remaining p h in let l = remaining-le p t in omega arith
-
-    at : Stage p → waits p ≤ 510
-    at (storing a h r k e) = in-body h
-    at (skipping h r k e) = in-body h
-    at (in-header a z) =
-        ⊎-elim (λ (e : p .count ≡ 0). let w = ap waits (empty-is p t e) ∙ waits-empty in omega arith)
-        (λ (h : 0 < p .count). let l = waits-header-le p t z h a in omega arith)
-        (eq-zero-or-pos (p .count))
+    at : Position p → waits p ≤ 510
+    at (at-start e) = let w = ap waits e ∙ waits-empty in omega arith
+    at (past-opcode z h a) = let w = waits-header-le p t z h a in omega arith
+    at (in-body h) = let w = waits-remaining p h in let l = remaining-le p t in omega arith

@@ -1,10 +1,11 @@
 -- Bool tests as facts. The library has those on `&&`, `||` and `not` (`mir.Facts`), and on the tests of numbers (`borrow.Author.Tests`).
 -- Assumes nothing.
-use mathlib.Core.Path.{_≡_, refl, sym, subst, _∙_}
+use mathlib.Core.Path.{_≡_, refl, sym, ap, subst, _∙_}
 use mathlib.Core.Bool.{Bool, true, false, not, cond, _||_}
 use mathlib.Core.Logic.{_⊎_, inl, inr}
-use Prim.Native.Nat.{ℕ, zero, suc, _≤_, _<_, zero-le, suc-le-suc}
-use lib.Dec.{T, leb, eqb}
+use Prim.Native.Nat.{ℕ, zero, suc, _-_, _≤_, _<_, zero-le, suc-le-suc}
+use native.Mathlib.Omega.{arith}
+use lib.Dec.{T, leb, eqb, leb·zero, leb·suc-suc}
 use borrow.Author.Tests.{leb-true, leb-false, eqb-true, eqb-false, eq-eqb, ne-eqb}
 
 pub is-true : (b : Bool) → T b → b ≡ true
@@ -44,6 +45,13 @@ le-or-lt a b = go (leb a b) refl
 pub not-zero : (n : ℕ) → eqb n 0 ≡ false → 0 < n
 not-zero zero e = absurd (subst T e tt)
 not-zero (suc n) e = suc-le-suc zero-le
+
+pub pos-eqb : (n : ℕ) → 0 < n → eqb n 0 ≡ false
+pos-eqb n h = ne-eqb n 0 (λ (e : n ≡ 0). omega arith)
+
+pub leb-pred : (m k : ℕ) → leb (m - 1) k ≡ leb m (suc k)
+leb-pred zero k = leb·zero k ∙ sym (leb·zero (suc k))
+leb-pred (suc m) k = let e : suc m - 1 ≡ m = omega arith in ap (λ (n : ℕ). leb n k) e ∙ sym (leb·suc-suc m k)
 
 -- two tests of equality that say the same
 pub eqb-iff : (a b c d : ℕ) → (a ≡ b → c ≡ d) → (c ≡ d → a ≡ b) → eqb a b ≡ eqb c d
