@@ -16,7 +16,7 @@ use Rattle.frame.specs.Push.{bodySizeAs, emptyPartial, afterOf, beginsFr
 use Rattle.frame.specs.Reach.{reachableOf}
 use Rattle.frame.specs.RunTable.{waits}
 use Rattle.frame.specs.Cut.{ReachableExact, RunOf128s, CutByTable, StoredAsSent, longSong, RemainingNeeded}
-use Rattle.frame.proofs.PushLaws.{not-opcodes, still-remain, then-empty, finishes}
+use Rattle.frame.proofs.PushLaws.{not-opcodes, still-remain, last-ends, finishes}
 use Rattle.frame.proofs.ReachLaws.{skipping, of-facts, places-le, empty-reachable, next-reachable, after-reachable}
 use Rattle.frame.proofs.StoredLaws.{partial-as-sent, complete-as-sent}
 use Rattle.frame.proofs.Reached.{reachable-left}
@@ -71,7 +71,7 @@ remaining-needed =
     record {
       not-opcodes = not-opcodes;
       still-remain = still-remain;
-      then-empty = then-empty;
+      last-ends = last-ends;
       song-needs = song-needs;
       song-reachable = song-reachable;
     }

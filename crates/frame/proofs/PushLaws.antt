@@ -193,12 +193,12 @@ still-remain p (b ∷ bs) h =
     let r = next-remaining p b (omega arith) in
     still-remain (nextOf p b) bs (omega arith) ∙ omega arith
 
-pub then-empty : (p : Partial) (bs : List ℕ) → 0 < p .remaining → length bs ≡ p .remaining → afterOf p bs ≡ emptyPartial
-then-empty p [] h e = absurd (omega arith)
-then-empty p (b ∷ []) h e = next-last p b (omega arith)
-then-empty p (b ∷ (c ∷ bs)) h e =
+pub last-ends : (p : Partial) (bs : List ℕ) → 0 < p .remaining → length bs ≡ p .remaining → afterOf p bs ≡ emptyPartial
+last-ends p [] h e = absurd (omega arith)
+last-ends p (b ∷ []) h e = next-last p b (omega arith)
+last-ends p (b ∷ (c ∷ bs)) h e =
     let r = next-remaining p b h in
-    then-empty (nextOf p b) (c ∷ bs) (omega arith) (omega arith)
+    last-ends (nextOf p b) (c ∷ bs) (omega arith) (omega arith)
 
 -- ---- a whole frame
 
@@ -215,7 +215,7 @@ finishes-known p q b [] e l =
 finishes-known p q b (d ∷ ds) e l =
     subst (λ (r : Partial). Finishes r (d ∷ ds))
     (sym (next-more p b _ e (pos-eqb (q .remaining) (omega arith))))
-    (record { not-opcode = not-opcodes q (d ∷ ds) (omega arith) (omega arith); empty-after = then-empty q (d ∷ ds) (omega arith) l })
+    (record { not-opcode = not-opcodes q (d ∷ ds) (omega arith) (omega arith); empty-after = last-ends q (d ∷ ds) (omega arith) l })
 
 -- a byte after which the header wants another
 finishes-more : (p q : Partial) (b d : ℕ) (ds : List ℕ) → pushOf p b ≡ record { partial = q; complete = false } → q .remaining ≡ 0 → 0 < q .count

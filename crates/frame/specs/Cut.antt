@@ -81,7 +81,7 @@ pub record RemainingNeeded : Type 0 where
   -- each takes the number to one less
   pub still-remain : (p : Partial) (bs : List ℕ) → length bs < p .remaining → afterOf p bs .remaining ≡ p .remaining - length bs
   -- the last of them ends the frame
-  pub then-empty : (p : Partial) (bs : List ℕ) → 0 < p .remaining → length bs ≡ p .remaining → afterOf p bs ≡ emptyPartial
+  pub last-ends : (p : Partial) (bs : List ℕ) → 0 < p .remaining → length bs ≡ p .remaining → afterOf p bs ≡ emptyPartial
   -- so from 140 s 255 with k bytes remaining k bytes come before the next opcode; each such frame is reachable
   pub song-needs : (s k : ℕ) (bs : List ℕ) → 0 < k → beginsFrame (afterOf (longSong s k) bs) ≡ true → k ≤ length bs
   pub song-reachable : (s k : ℕ) → s < 256 → 0 < k → k ≤ 510 → T (reachableOf (longSong s k))
