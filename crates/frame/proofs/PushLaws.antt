@@ -16,7 +16,7 @@ use Rattle.wire.specs.Lists.{allBytes}
 use Rattle.wire.proofs.BoolLaws.{to-T, cond-true, cond-false, pos-eqb}
 use Rattle.wire.proofs.ListsLaws.{byte-at}
 use Rattle.frame.specs.FrameTable.{dataLength, dataBytes, headerSize}
-use Rattle.frame.specs.Push.{frameSizeAs, frameSize, bodySizeAs, storesBodyAs, lengthOf, headerOf, bodySize, storesBody, measureOf, bodyByteOf, pushOf, emptyPartial, nextOf, afterOf, opcodes}
+use Rattle.frame.specs.Push.{frameSizeAs, frameSize, bodySizeAs, storesBodyAs, lengthOf, headerOf, bodySize, storesBody, measureOf, bodyByteOf, pushOf, stored, emptyPartial, nextOf, afterOf, opcodes}
 use Rattle.frame.specs.declared.Length.{Length}
 use Rattle.frame.specs.declared.Length.the-variants.{Fixed, Counted, Song, Unknown}
 use Rattle.frame.specs.declared.Partial.{Partial}
@@ -229,24 +229,20 @@ finishes-more p q b d ds e z h f =
       empty-after = f .empty-after;
     })
 
--- a frame whose first n bytes are stored, and the rest of the 35 places is 0
-abbrev begunBy : List ℕ → ℕ → ℕ → Partial
-begunBy bs n m = record { bytes = bs ++ replicate (35 - n) 0; count = n; remaining = m }
-
 finishes-as : (l : Length) (op : ℕ) (ds : List ℕ) → dataLength op ≡ l → length ds ≡ dataBytes l (op ∷ ds) → Finishes (nextOf emptyPartial op) ds
 unfolding bodySizeAs
-finishes-as (Fixed n) op ds e a = finishes-known emptyPartial (begunBy (op ∷ []) 1 (bodySizeAs (Fixed n) [])) op ds (simp e) (omega arith)
-finishes-as Unknown op ds e a = finishes-known emptyPartial (begunBy (op ∷ []) 1 0) op ds (simp e) a
+finishes-as (Fixed n) op ds e a = finishes-known emptyPartial (stored (op ∷ []) (bodySizeAs (Fixed n) [])) op ds (simp e) (omega arith)
+finishes-as Unknown op ds e a = finishes-known emptyPartial (stored (op ∷ []) 0) op ds (simp e) a
 finishes-as Counted op [] e a = absurd (omega arith)
 finishes-as Counted op (n ∷ ds) e a =
-    finishes-more emptyPartial (begunBy (op ∷ []) 1 0) op n ds (simp e) refl (omega arith)
-    (finishes-known (begunBy (op ∷ []) 1 0) (begunBy (op ∷ n ∷ []) 2 (bodySizeAs Counted (op ∷ n ∷ []))) n ds (simp e) (omega arith))
+    finishes-more emptyPartial (stored (op ∷ []) 0) op n ds (simp e) refl (omega arith)
+    (finishes-known (stored (op ∷ []) 0) (stored (op ∷ n ∷ []) (bodySizeAs Counted (op ∷ n ∷ []))) n ds (simp e) (omega arith))
 finishes-as Song op [] e a = absurd (omega arith)
 finishes-as Song op (s ∷ []) e a = absurd (omega arith)
 finishes-as Song op (s ∷ (n ∷ ds)) e a =
-    finishes-more emptyPartial (begunBy (op ∷ []) 1 0) op s (n ∷ ds) (simp e) refl (omega arith)
-    (finishes-more (begunBy (op ∷ []) 1 0) (begunBy (op ∷ s ∷ []) 2 0) s n ds (simp e) refl (omega arith)
-    (finishes-known (begunBy (op ∷ s ∷ []) 2 0) (begunBy (op ∷ s ∷ n ∷ []) 3 (bodySizeAs Song (op ∷ s ∷ n ∷ []))) n ds (simp e) (omega arith)))
+    finishes-more emptyPartial (stored (op ∷ []) 0) op s (n ∷ ds) (simp e) refl (omega arith)
+    (finishes-more (stored (op ∷ []) 0) (stored (op ∷ s ∷ []) 0) s n ds (simp e) refl (omega arith)
+    (finishes-known (stored (op ∷ s ∷ []) 0) (stored (op ∷ s ∷ n ∷ []) (bodySizeAs Song (op ∷ s ∷ n ∷ []))) n ds (simp e) (omega arith)))
 
 -- an opcode and its data bytes
 pub finishes : (op : ℕ) (ds : List ℕ) → length ds ≡ dataBytes (dataLength op) (op ∷ ds) → Finishes (nextOf emptyPartial op) ds

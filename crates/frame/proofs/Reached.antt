@@ -13,13 +13,13 @@ use lib.ListN.{length, getD, take, replicate, length-append, length-replicate}
 use lib.Seq.{length-take-le, take-at}
 use Rattle.wire.specs.Lists.{isByte, allBytes}
 use Rattle.wire.proofs.ListsLaws.{all-take, all-replicate, all-append, zeros-from, getD-zeros}
-use Rattle.frame.specs.Push.{bodySizeAs, lengthOf, headerOf, frameSize, bodySize, storesBody}
+use Rattle.frame.specs.Push.{bodySizeAs, lengthOf, headerOf, frameSize, bodySize, storesBody, stored}
 use Rattle.frame.specs.Reach.{reachableOf}
 use Rattle.frame.specs.Cut.{keptOf, partialOf, LeftBySome}
 use Rattle.frame.specs.declared.Partial.{Partial}
 use Rattle.frame.proofs.PushLaws.{header-le, header-le-frame, Agree, header-agree, frame-agree, stores-agree, partial-eq}
 use Rattle.frame.proofs.ReachLaws.{Places, Stage, in-header, storing, skipping, places-of, stage-of, stored-room, empty-is}
-use Rattle.frame.proofs.StoredLaws.{stored, kept-all, kept-header, partial-in-header, partial-known, partial-as-sent}
+use Rattle.frame.proofs.StoredLaws.{kept-all, kept-header, partial-in-header, partial-known, partial-as-sent}
 
 module _ (p : Partial) (q : Places (p .bytes) (p .count)) (some : 0 < p .count) (room : p .count ≤ 35) where
   abbrev kept : List ℕ

@@ -1,14 +1,14 @@
 -- What is stored is what was sent: `partialOf` of a frame's first bytes is kept up by each byte more.
 -- Assumes nothing.
-use mathlib.Core.Path.{_≡_, refl, sym, subst, ap, _∙_}
-use mathlib.Core.Bool.{Bool, true, false, cond}
+use mathlib.Core.Path.{_≡_, refl, sym, subst, ap, ap₂, _∙_}
+use mathlib.Core.Bool.{Bool, true, false}
 use mathlib.Core.List.{List, [], _∷_, _++_, append-assoc, append-nil}
 use mathlib.Core.Logic.{⊎-elim}
 use Prim.Native.Nat.{ℕ, _+_, _-_, _≤_, _<_}
 use native.Mathlib.Nat.{eq-or-lt-of-le}
 use native.Mathlib.Omega.{arith}
-use lib.Dec.{T, ltb, eqb}
-use lib.ListN.{length, take, replicate, length-append, List·getD-append}
+use lib.Dec.{T, eqb}
+use lib.ListN.{length, take, length-append, List·getD-append}
 use lib.Seq.{take-all, take-append-le, getD-take}
 use mir.Facts.{and-yes, yes-and}
 use borrow.Author.Tests.{lt-ltb, le-ltb, eq-eqb, ne-eqb}
@@ -16,20 +16,16 @@ use Rattle.wire.specs.Lists.{isByte, allBytes}
 use Rattle.wire.proofs.BoolLaws.{le-or-lt, eqb-iff, cond-true, cond-false}
 use Rattle.wire.proofs.ListsLaws.{all-append, getD-zeros, set-zeros}
 use Rattle.frame.specs.FrameTable.{dataLength, headerSize}
-use Rattle.frame.specs.Push.{bodySizeAs, lengthOf, headerOf, frameSize, bodySize, storesBody, measureOf, pushOf, emptyPartial, nextOf, afterOf}
+use Rattle.frame.specs.Push.{bodySizeAs, lengthOf, headerOf, frameSize, bodySize, storesBody, measureOf, pushOf, stored, emptyPartial, nextOf, afterOf}
 use Rattle.frame.specs.Cut.{keptOf, partialOf}
 use Rattle.frame.specs.declared.Partial.{Partial}
 use Rattle.frame.specs.declared.Pushed.{Pushed}
 use Rattle.frame.proofs.PushLaws.{header-pos, header-le, header-le-frame, stored-fits, Agree, header-agree, frame-agree, body-agree, stores-agree, partial-eq, measure-waits, measure-known, push-header, push-stored, push-skipped, next-more, after-append}
 
--- bytes in the first of the 35 places, n remaining
-abbrev pub padded : List ℕ → List ℕ
-padded l = l ++ replicate (35 - length l) 0
+abbrev padded : List ℕ → List ℕ
+padded l = stored l 0 .bytes
 
-abbrev pub stored : List ℕ → ℕ → Partial
-stored l n = record { bytes = padded l; count = length l; remaining = n }
-
-pub pad-agree : (n : ℕ) (l : List ℕ) → Agree n (padded l) l
+pad-agree : (n : ℕ) (l : List ℕ) → Agree n (padded l) l
 pad-agree n l i h = getD-zeros l (35 - length l) i
 
 -- ---- the parts of `partialOf`
@@ -49,10 +45,11 @@ kept-short bs h = go (storesBody bs) refl
     go false k = kept-header bs k ∙ take-all (headerOf bs) bs h
 
 pub partial-in-header : (bs : List ℕ) → length bs < headerOf bs → partialOf bs ≡ stored bs 0
-partial-in-header bs h = ap (λ (l : List ℕ). stored l (cond (ltb (length bs) (headerOf bs)) 0 (frameSize bs - length bs))) (kept-short bs (omega arith)) ∙ ap (stored bs) (cond-true _ 0 (frameSize bs - length bs) (lt-ltb (length bs) (headerOf bs) h))
+partial-in-header bs h =
+    ap₂ stored (kept-short bs (omega arith)) (cond-true _ 0 (frameSize bs - length bs) (lt-ltb (length bs) (headerOf bs) h))
 
 pub partial-known : (bs l : List ℕ) → headerOf bs ≤ length bs → keptOf bs ≡ l → partialOf bs ≡ stored l (frameSize bs - length bs)
-partial-known bs l h e = ap (λ (l : List ℕ). stored l (cond (ltb (length bs) (headerOf bs)) 0 (frameSize bs - length bs))) e ∙ ap (stored l) (cond-false _ 0 (frameSize bs - length bs) (le-ltb (length bs) (headerOf bs) h))
+partial-known bs l h e = ap₂ stored e (cond-false _ 0 (frameSize bs - length bs) (le-ltb (length bs) (headerOf bs) h))
 
 -- ---- one byte more
 

@@ -8,7 +8,7 @@ use lib.Dec.{T, leb, ltb}
 use lib.ListN.{length, getD, take, replicate}
 use Rattle.wire.specs.Lists.{all, allBytes}
 use Rattle.frame.specs.FrameTable.{dataLength, dataBytes}
-use Rattle.frame.specs.Push.{headerOf, frameSize, storesBody, pushOf, emptyPartial, nextOf, afterOf, beginsFrame, opcodes}
+use Rattle.frame.specs.Push.{headerOf, frameSize, storesBody, pushOf, stored, emptyPartial, nextOf, afterOf, beginsFrame, opcodes}
 use Rattle.frame.specs.Reach.{reachableOf}
 use Rattle.frame.specs.RunTable.{runTable, waits, rowRuns}
 use Rattle.frame.specs.declared.Partial.{Partial}
@@ -24,14 +24,13 @@ pub record CutByTable : Type 0 where
 abbrev pub keptOf : List ℕ → List ℕ
 keptOf bs = cond (storesBody bs) bs (take (headerOf bs) bs)
 
--- the partial frame of a frame's first bytes: those that are kept, from the first place on; the number remaining, once the length is known
+-- how many bytes are still to come: 0 until the length is known
+abbrev pub remainingOf : List ℕ → ℕ
+remainingOf bs = cond (ltb (length bs) (headerOf bs)) 0 (frameSize bs - length bs)
+
+-- the partial frame that a frame's first bytes leave
 abbrev pub partialOf : List ℕ → Partial
-partialOf bs =
-    record {
-      bytes = keptOf bs ++ replicate (35 - length (keptOf bs)) 0;
-      count = length (keptOf bs);
-      remaining = cond (ltb (length bs) (headerOf bs)) 0 (frameSize bs - length bs);
-    }
+partialOf bs = stored (keptOf bs) (remainingOf bs)
 
 -- THEOREM: what is stored is what was sent. (No frame is empty, so bs in `complete-as-sent` may be.)
 pub record StoredAsSent : Type 0 where
@@ -72,7 +71,7 @@ pub record RunOf128s : Type 0 where
 
 -- 140 s 255, with k bytes remaining
 abbrev pub longSong : ℕ → ℕ → Partial
-longSong s k = record { bytes = 140 ∷ s ∷ 255 ∷ replicate 32 0; count = 3; remaining = k }
+longSong s k = stored (140 ∷ s ∷ 255 ∷ []) k
 
 -- THEOREM: the bytes that remain are all needed, whatever their values, of every partial frame, reachable or not
 pub record RemainingNeeded : Type 0 where

@@ -2,10 +2,10 @@
 -- its length, and its body, the data bytes after that.
 -- Assumes nothing.
 use mathlib.Core.Bool.{Bool, true, false, not, cond, _&&_}
-use mathlib.Core.List.{List, [], _∷_}
+use mathlib.Core.List.{List, [], _∷_, _++_}
 use Prim.Native.Nat.{ℕ, _+_, _-_}
 use lib.Dec.{leb, ltb, eqb}
-use lib.ListN.{getD, set, replicate}
+use lib.ListN.{length, getD, set, replicate}
 use Rattle.frame.specs.FrameTable.{dataLength, dataBytes, headerSize}
 use Rattle.frame.specs.declared.Length.{Length}
 use Rattle.frame.specs.declared.Length.the-variants.{Fixed, Counted, Song, Unknown}
@@ -68,9 +68,13 @@ pushOf p b = cond (eqb (p .remaining) 0) (measureOf (appendOf p b)) (bodyByteOf 
 
 -- ---- bytes, one after the other
 
+-- these bytes in the first of the 35 places, 0 in the others, and n remaining
+abbrev pub stored : List ℕ → ℕ → Partial
+stored bs n = record { bytes = bs ++ replicate (35 - length bs) 0; count = length bs; remaining = n }
+
 -- nothing is stored (document 01: nothing is held)
 abbrev pub emptyPartial : Partial
-emptyPartial = record { bytes = replicate 35 0; count = 0; remaining = 0 }
+emptyPartial = stored [] 0
 
 -- what is left between two bytes: empty, where the byte completed a frame
 unfoldable pub nextOf : Partial → ℕ → Partial

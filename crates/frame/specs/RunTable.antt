@@ -9,21 +9,21 @@ use Rattle.wire.specs.Lists.{all, among}
 use Rattle.frame.specs.Push.{emptyPartial, afterOf, beginsFrame, opcodes}
 use Rattle.frame.specs.declared.Partial.{Partial}
 
--- the table's first column, 'what is held'
-pub data Held : Type 0 where
-  nothing : Held
+-- the table's first column, 'what is held': how far a frame has come
+pub data Progress : Type 0 where
+  nothing : Progress
   -- the length is known
-  known : Held
+  known : Progress
   -- one of these opcodes begins the frame, n bytes of it have come, and the length isn't known
-  begun : List ℕ → ℕ → Held
+  begun : List ℕ → ℕ → Progress
 
 -- a row: what is held, and the byte named, k being the number remaining
 pub record RunRow : Type 0 where
-  pub held : Held
+  pub progress : Progress
   pub byte : ℕ → ℕ
 
-abbrev row : Held → (ℕ → ℕ) → RunRow
-row h f = record { held = h; byte = f }
+abbrev row : Progress → (ℕ → ℕ) → RunRow
+row p f = record { progress = p; byte = f }
 
 -- document 01's rows, in its order
 abbrev pub runTable : List RunRow
@@ -36,15 +36,15 @@ runTable =
     ∷ []
 
 -- a row speaks of this partial frame
-abbrev pub holds : Held → Partial → Bool
-holds nothing p = beginsFrame p
-holds known p = not (eqb (p .remaining) 0)
-holds (begun ops n) p = eqb (p .remaining) 0 && (eqb (p .count) n && among ops (getD (p .bytes) 0 0))
+abbrev pub isAt : Progress → Partial → Bool
+isAt nothing p = beginsFrame p
+isAt known p = not (eqb (p .remaining) 0)
+isAt (begun ops n) p = eqb (p .remaining) 0 && (eqb (p .count) n && among ops (getD (p .bytes) 0 0))
 
 -- the byte that the rows name; no row speaks of some frames that are not reachable
 abbrev pub named : List RunRow → Partial → ℕ
 named [] p = 1
-named (r ∷ rs) p = cond (holds (r .held) p) (r .byte (p .remaining)) (named rs p)
+named (r ∷ rs) p = cond (isAt (r .progress) p) (r .byte (p .remaining)) (named rs p)
 
 -- the bytes of a run of 128s that come before the byte named
 unfoldable pub waits : Partial → ℕ
@@ -59,7 +59,7 @@ firstOpcode (true ∷ bs) = 1
 firstOpcode (false ∷ bs) = suc (firstOpcode bs)
 
 -- lists of bytes after which a row speaks of what is held: every opcode of the row; for a known length the least and the greatest numbers
-abbrev pub samples : Held → List (List ℕ)
+abbrev pub samples : Progress → List (List ℕ)
 samples nothing = [] ∷ []
 samples known = (129 ∷ []) ∷ (137 ∷ []) ∷ (148 ∷ 1 ∷ []) ∷ (152 ∷ 255 ∷ []) ∷ (140 ∷ 0 ∷ 255 ∷ []) ∷ []
 samples (begun ops n) = map (λ op. op ∷ replicate (n - 1) 0) ops
@@ -68,7 +68,7 @@ samples (begun ops n) = map (λ op. op ∷ replicate (n - 1) 0) ops
 abbrev pub runs : RunRow → List ℕ → Bool
 runs r bs =
     let p = afterOf emptyPartial bs in
-    holds (r .held) p && eqb (firstOpcode (opcodes p (replicate 511 128))) (r .byte (p .remaining))
+    isAt (r .progress) p && eqb (firstOpcode (opcodes p (replicate 511 128))) (r .byte (p .remaining))
 
 abbrev pub rowRuns : RunRow → Bool
-rowRuns r = all (runs r) (samples (r .held))
+rowRuns r = all (runs r) (samples (r .progress))
