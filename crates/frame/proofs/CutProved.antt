@@ -12,22 +12,33 @@ use mir.Facts.{yes-and, and-yes}
 use borrow.Author.Tests.{le-leb}
 use Rattle.wire.proofs.BoolLaws.{to-T, le-or-lt}
 use Rattle.frame.specs.FrameTable.{dataLength}
-use Rattle.frame.specs.Push.{bodySizeAs, emptyPartial, afterOf, beginsFrame}
+use Rattle.frame.specs.Push.{bodySizeAs, nextOf, emptyPartial, afterOf, beginsFrame}
 use Rattle.frame.specs.Reach.{reachableOf}
 use Rattle.frame.specs.RunTable.{waits}
-use Rattle.frame.specs.Cut.{ReachableExact, RunOf128s, CutByTable, StoredAsSent, longSong, RemainingNeeded}
-use Rattle.frame.proofs.PushLaws.{not-opcodes, still-remain, last-ends, finishes}
+use Rattle.frame.specs.Cut.{ReachableExact, RunOf128s, CutInNumbers, CutByTable, EveryPush, StoredAsSent, longSong, RemainingNeeded}
+use Rattle.frame.proofs.PushLaws.{not-opcodes, still-remain, last-ends, opcodes-append, after-append, stays-array, full-stays, complete-done, finishes, finishes-rest}
 use Rattle.frame.proofs.ReachLaws.{skipping, of-facts, places-le, empty-reachable, next-reachable, after-reachable}
 use Rattle.frame.proofs.StoredLaws.{partial-as-sent, complete-as-sent}
-use Rattle.frame.proofs.Reached.{reachable-left}
+use Rattle.frame.proofs.Reached.{reachable-left, only-song}
 use Rattle.frame.proofs.RunTableLaws.{rows-run, steps, opcode-at, remaining-le, waits-le}
+
+pub cut-in-numbers : CutInNumbers
+unfolding dataLength bodySizeAs nextOf
+cut-in-numbers = record { cases-right = tt; counts-right = tt }
 
 pub cut-by-table : CutByTable
 cut-by-table =
     record {
       data-not-opcodes = λ op ds e. ap (λ (l : List Bool). true ∷ l) (finishes op ds e .not-opcode);
       then-empty = λ op ds e. finishes op ds e .empty-after;
+      rest-not-opcodes = λ bs ds h e. finishes-rest bs ds h e .not-opcode;
+      rest-then-empty = λ bs ds h e. finishes-rest bs ds h e .empty-after;
+      opcodes-append = opcodes-append;
+      after-append = after-append;
     }
+
+pub every-push : EveryPush
+every-push = record { stays-array = stays-array; full-stays = full-stays; complete-done = complete-done }
 
 pub stored-as-sent : StoredAsSent
 stored-as-sent = record { partial-as-sent = partial-as-sent; complete-as-sent = complete-as-sent }
@@ -74,4 +85,5 @@ remaining-needed =
       last-ends = last-ends;
       song-needs = song-needs;
       song-reachable = song-reachable;
+      only-song = only-song;
     }

@@ -1,10 +1,13 @@
 -- Laws of the frame table, each by one test that antt computes over opcodes 0 to 255.
 -- Assumes nothing.
-use mathlib.Core.Path.{_≡_, refl, sym, ap, _∙_}
-use mathlib.Core.Bool.{Bool}
+use mathlib.Core.Path.{_≡_, refl, sym, ap, subst, _∙_}
+use mathlib.Core.Bool.{Bool, not, _||_}
+use mathlib.Core.List.{List}
 use Prim.Native.Nat.{ℕ, zero, suc, _<_, zero-le}
 use native.Mathlib.Omega.{arith}
-use lib.Dec.{T, leb, eqb, eqb→eq}
+use lib.Dec.{T, leb, eqb, eqb→eq, eqb-refl}
+use Rattle.wire.specs.Lists.{allFrom, among}
+use Rattle.wire.proofs.BoolLaws.{implied}
 use Rattle.wire.proofs.ListsLaws.{from}
 use Rattle.frame.specs.FrameTable.{dataLength}
 use Rattle.frame.specs.declared.Length.{Length}
@@ -42,3 +45,10 @@ same-eq l m t = sym (decode-code l) ∙ ap decode (eqb→eq (code l) (code m) t)
 pub fixed-small : (op : ℕ) → op < 256 → T (leb (code (dataLength op)) (code (Fixed 4)))
 unfolding dataLength
 fixed-small op h = from (λ k. leb (code (dataLength k)) (code (Fixed 4))) 0 256 tt op zero-le (omega arith)
+
+-- the opcodes of one length are among ks
+pub only-these : (l : Length) (ks : List ℕ) → T (allFrom (λ k. not (same (dataLength k) l) || among ks k) 0 256)
+    → (op : ℕ) → op < 256 → dataLength op ≡ l → T (among ks op)
+only-these l ks t op h e =
+    implied (same (dataLength op) l) (among ks op) (from (λ k. not (same (dataLength k) l) || among ks k) 0 256 t op zero-le (omega arith))
+    (subst (λ (m : Length). T (same (dataLength op) m)) e (eqb-refl (code (dataLength op))))

@@ -3,20 +3,21 @@
 use mathlib.Core.Path.{_≡_, refl, sym, ap, ap₂, subst, _∙_}
 use mathlib.Core.Bool.{Bool, true, false, not}
 use mathlib.Core.List.{List, [], _∷_, _++_}
-use mathlib.Core.Logic.{⊎-elim}
+use mathlib.Core.Logic.{_⊎_, inl, inr, ⊎-elim}
 use Prim.Native.Nat.{ℕ, suc, _+_, _-_, _≤_, _<_}
 use native.Mathlib.Nat.{eq-zero-or-pos, eq-or-lt-of-le}
 use native.Mathlib.Omega.{arith}
-use lib.Dec.{T, leb, eqb, leb→le}
+use lib.Dec.{T, leb, eqb, leb→le, ltb}
 use lib.ListN.{length, getD, set, replicate}
 use lib.Seq.{getD-set-other}
 use mir.Facts.{and-yes}
-use borrow.Author.Tests.{lt-leb, lt-ltb, le-ltb, eq-eqb, ne-eqb}
-use Rattle.wire.specs.Lists.{allBytes}
-use Rattle.wire.proofs.BoolLaws.{to-T, cond-true, cond-false, pos-eqb}
-use Rattle.wire.proofs.ListsLaws.{byte-at}
+use borrow.Author.Tests.{lt-leb, lt-ltb, le-ltb, eq-eqb, ne-eqb, le-leb, leb-true, eqb-true}
+use Rattle.wire.specs.Lists.{allBytes, byteArray}
+use Rattle.wire.proofs.BoolLaws.{le-or-lt, is-true, to-T, cond-true, cond-false, pos-eqb}
+use Rattle.wire.proofs.ListsLaws.{byte-at, array-set}
 use Rattle.frame.specs.FrameTable.{dataLength, dataBytes, headerSize}
-use Rattle.frame.specs.Push.{frameSizeAs, frameSize, bodySizeAs, storesBodyAs, lengthOf, headerOf, bodySize, storesBody, measureOf, bodyByteOf, pushOf, stored, emptyPartial, nextOf, afterOf, opcodes}
+use Rattle.frame.specs.Push.{frameSizeAs, frameSize, bodySizeAs, legalCount, isScript, storesBodyAs, lengthOf, headerOf, bodySize, storesBody, appendOf, measureOf, bodyByteOf, pushOf, stored, emptyPartial, nextOf, afterOf, beginsFrame, opcodes}
+use Rattle.frame.specs.Reach.{isArray}
 use Rattle.frame.specs.declared.Length.{Length}
 use Rattle.frame.specs.declared.Length.the-variants.{Fixed, Counted, Song, Unknown}
 use Rattle.frame.specs.declared.Partial.{Partial}
@@ -47,17 +48,17 @@ body-as-le Unknown bs t p q = omega arith
 pub body-le : (bs : List ℕ) → T (allBytes bs) → bodySize bs ≤ 510
 body-le bs t = body-as-le (lengthOf bs) bs (fixed-small (getD bs 0 0) (byte-at bs t 0)) (byte-at bs t 1) (byte-at bs t 2)
 
-stored-as : (l : Length) (bs : List ℕ) → T (leb (code l) (code (Fixed 4))) → T (storesBodyAs l bs) → headerSize l + bodySizeAs l bs ≤ 35
+stored-as : (l : Length) (bs : List ℕ) → T (leb (code l) (code (Fixed 4))) → storesBodyAs l bs ≡ true → headerSize l + bodySizeAs l bs ≤ 35
 unfolding bodySizeAs
 stored-as (Fixed n) bs t k = let h : suc (suc (suc n)) ≤ 7 = leb→le (code (Fixed n)) 7 t in omega arith
 stored-as Counted bs t k =
-    let h : getD bs 1 0 ≤ 16 = leb→le (getD bs 1 0) 16 (and-yes (not (eqb (getD bs 0 0) 152)) (leb (getD bs 1 0) 16) k .1) in
-    omega arith
-stored-as Song bs t k = let h : getD bs 2 0 ≤ 16 = leb→le (getD bs 2 0) 16 k in omega arith
+    let h = is-true (legalCount (getD bs 1 0)) (and-yes (not (isScript bs)) (legalCount (getD bs 1 0)) (to-T _ k) .1) in
+    omega (arith, leb-true)
+stored-as Song bs t k = omega (arith, leb-true)
 stored-as Unknown bs t k = omega arith
 
 pub stored-fits : (bs : List ℕ) → T (allBytes bs) → storesBody bs ≡ true → headerOf bs + bodySize bs ≤ 35
-stored-fits bs t k = stored-as (lengthOf bs) bs (fixed-small (getD bs 0 0) (byte-at bs t 0)) (to-T (storesBody bs) k)
+stored-fits bs t k = stored-as (lengthOf bs) bs (fixed-small (getD bs 0 0) (byte-at bs t 0)) k
 
 pub header-le-frame : (l : Length) (bs : List ℕ) → headerSize l ≤ frameSizeAs l bs
 header-le-frame (Fixed n) bs = omega arith
@@ -171,7 +172,66 @@ next-remaining p b h =
     (next-more p b (bodyByteOf p b) (push-body p b h) (ne-eqb (p .remaining) 1 (λ (e : p .remaining ≡ 1). omega arith))))
     (eq-or-lt-of-le h)
 
+-- ---- any byte, any frame
+
+-- the same bytes are stored
+abbrev Keeps : Partial → Partial → Type 0
+Keeps p q = (p .bytes ≡ q .bytes) × (p .count ≡ q .count)
+
+measure-keeps : (p : Partial) → Keeps (measureOf p .partial) p
+measure-keeps p = go (ltb (p .count) (headerOf (p .bytes))) refl
+  where
+    go : (t : Bool) → ltb (p .count) (headerOf (p .bytes)) ≡ t → Keeps (measureOf p .partial) p
+    go true e = simp e (refl, refl)
+    go false e = simp e (refl, refl)
+
+-- the byte is appended, or nothing is stored
+push-keeps : (p : Partial) (b : ℕ) → Keeps (pushOf p b .partial) (appendOf p b) ⊎ Keeps (pushOf p b .partial) p
+push-keeps p b = go (eqb (p .remaining) 0) (storesBody (p .bytes)) refl refl
+  where
+    go : (t k : Bool) → eqb (p .remaining) 0 ≡ t → storesBody (p .bytes) ≡ k → Keeps (pushOf p b .partial) (appendOf p b) ⊎ Keeps (pushOf p b .partial) p
+    go true k e s = inl (simp e (measure-keeps (appendOf p b)))
+    go false true e s = inl (simp (e, s) (refl, refl))
+    go false false e s = inr (simp (e, s) (refl, refl))
+
+append-array : (p : Partial) (b : ℕ) → T (isArray p) → b < 256 → T (isArray (appendOf p b))
+append-array p b t h = go (leb 35 (p .count)) refl
+  where
+    go : (c : Bool) → leb 35 (p .count) ≡ c → T (isArray (appendOf p b))
+    go true e = simp e t
+    go false e = simp e (array-set 35 (p .bytes) (p .count) b t h)
+
+pub stays-array : (p : Partial) (b : ℕ) → T (isArray p) → b < 256 → T (isArray (pushOf p b .partial))
+stays-array p b t h =
+    ⊎-elim (λ k. subst (λ (l : List ℕ). T (byteArray 35 l)) (sym (k .0)) (append-array p b t h)) (λ k. subst (λ (l : List ℕ). T (byteArray 35 l)) (sym (k .0)) t)
+    (push-keeps p b)
+
+pub full-stays : (p : Partial) (b : ℕ) → 35 ≤ p .count → Keeps (pushOf p b .partial) p
+full-stays p b h =
+    let e : appendOf p b ≡ p = simp (le-leb 35 (p .count) h) in
+    ⊎-elim (λ k. subst (Keeps (pushOf p b .partial)) e k) (λ k. k) (push-keeps p b)
+
+-- where the frame is complete nothing remains
+abbrev Done : Pushed → Type 0
+Done r = r .complete ≡ true → r .partial .remaining ≡ 0
+
+measure-done : (p : Partial) → Done (measureOf p)
+measure-done p =
+    ⊎-elim (λ (h : headerOf (p .bytes) ≤ p .count). subst Done (sym (measure-known p h)) (λ c. eqb-true _ _ c))
+    (λ (h : p .count < headerOf (p .bytes)). subst Done (sym (measure-waits p h)) (λ c. cc))
+    (le-or-lt (headerOf (p .bytes)) (p .count))
+
+pub complete-done : (p : Partial) (b : ℕ) → Done (pushOf p b)
+complete-done p b =
+    ⊎-elim (λ (e : p .remaining ≡ 0). let m : pushOf p b ≡ measureOf (appendOf p b) = simp (eq-eqb _ _ e) in subst Done (sym m) (measure-done (appendOf p b)))
+    (λ (h : 0 < p .remaining). subst Done (sym (push-body p b h)) (λ c. let e = eqb-true (p .remaining) 1 c in omega arith))
+    (eq-zero-or-pos (p .remaining))
+
 -- ---- after, opcodes
+
+pub opcodes-append : (p : Partial) (bs cs : List ℕ) → opcodes p (bs ++ cs) ≡ opcodes p bs ++ opcodes (afterOf p bs) cs
+opcodes-append p [] cs = refl
+opcodes-append p (b ∷ bs) cs = ap (λ (l : List Bool). beginsFrame p ∷ l) (opcodes-append (nextOf p b) bs cs)
 
 pub after-append : (p : Partial) (bs cs : List ℕ) → afterOf p (bs ++ cs) ≡ afterOf (afterOf p bs) cs
 after-append p [] cs = refl
@@ -247,3 +307,13 @@ finishes-as Song op (s ∷ (n ∷ ds)) e a =
 -- an opcode and its data bytes
 pub finishes : (op : ℕ) (ds : List ℕ) → length ds ≡ dataBytes (dataLength op) (op ∷ ds) → Finishes (nextOf emptyPartial op) ds
 finishes op ds a = finishes-as (dataLength op) op ds refl a
+
+-- once its first bytes have come, by the rest of it
+finishes-later : (bs ds : List ℕ) (p : Partial) → Finishes p (bs ++ ds) → Finishes (afterOf p bs) ds
+finishes-later [] ds p f = f
+finishes-later (b ∷ bs) ds p f =
+    finishes-later bs ds (nextOf p b) (record { not-opcode = cc (f .not-opcode); empty-after = f .empty-after })
+
+pub finishes-rest : (bs ds : List ℕ) → 0 < length bs → length (bs ++ ds) ≡ frameSize (bs ++ ds) → Finishes (afterOf emptyPartial bs) ds
+finishes-rest [] ds h e = absurd (omega arith)
+finishes-rest (op ∷ bs) ds h e = finishes-later bs ds (nextOf emptyPartial op) (finishes op (bs ++ ds) (omega arith))

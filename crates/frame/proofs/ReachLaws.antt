@@ -13,7 +13,7 @@ use lib.Seq.{drop-set-lt}
 use mir.Facts.{and-yes, yes-and, yes-eqb}
 use borrow.Author.Tests.{ltb-true, ltb-false, eqb-false, not-true, lt-ltb, le-ltb, le-leb, eq-eqb}
 use Rattle.wire.specs.Lists.{isZero, isByte, allZero, allBytes}
-use Rattle.wire.proofs.BoolLaws.{is-true, to-T, cond-cases, not-zero, pos-eqb}
+use Rattle.wire.proofs.BoolLaws.{is-true, to-T, cond-cases, not-zero, pos-eqb, not-one}
 use Rattle.wire.proofs.ListsLaws.{bytes-set, all-later, zeros-are}
 use Rattle.frame.specs.FrameTable.{dataLength}
 use Rattle.frame.specs.Push.{lengthOf, headerOf, bodySize, storesBody, measureOf, pushOf, emptyPartial, nextOf, afterOf}
@@ -153,9 +153,6 @@ measure-leaves p q z a =
     (λ (m : p .count < headerOf (p .bytes)). subst Leaves (sym (measure-waits p m)) (λ w. of-facts p q (in-header m z)))
     (eq-or-lt-of-le a)
 
-not-last : (n : ℕ) → 0 < n → eqb n 1 ≡ false → 1 < n
-not-last n h w = ⊎-elim (λ (e : 1 ≡ n). absurd (eqb-false n 1 w (sym e))) (λ q. q) (eq-or-lt-of-le h)
-
 leaves : (p : Partial) (b : ℕ) → Places (p .bytes) (p .count) → b < 256 → Stage p → Leaves (pushOf p b)
 leaves p b q hb (in-header a e) =
     let le = header-le (lengthOf (p .bytes)) in
@@ -169,13 +166,13 @@ leaves p b q hb (storing a h r k e) =
     let r₁ = body-agree (g .bytes) (p .bytes) same in
     subst Leaves (sym (push-stored p b h k room))
     (λ w.
-    let m = not-last (p .remaining) h w in
+    let m = not-one (p .remaining) h w in
     of-facts g (places-grown (p .bytes) (p .count) b q room hb)
     (storing (omega arith) (omega arith) (omega arith) (stores-agree (g .bytes) (p .bytes) same ∙ k) (omega arith)))
 leaves p b q hb (skipping h r k e) =
     subst Leaves (sym (push-skipped p b h k))
     (λ w.
-    let m = not-last (p .remaining) h w in
+    let m = not-one (p .remaining) h w in
     of-facts (record { bytes = p .bytes; count = p .count; remaining = p .remaining - 1 }) q (skipping (omega arith) (omega arith) k e))
 
 pub next-reachable : (p : Partial) (b : ℕ) → T (reachableOf p) → b < 256 → T (reachableOf (nextOf p b))

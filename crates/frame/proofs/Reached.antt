@@ -3,21 +3,26 @@
 -- Assumes nothing.
 use mathlib.Core.Path.{_≡_, refl, sym, ap, ap₂, _∙_}
 use mathlib.Core.Bool.{true, false}
-use mathlib.Core.List.{List, [], _++_, append-nil}
+use mathlib.Core.List.{List, [], _∷_, _++_, append-nil}
 use mathlib.Core.Logic.{⊎-elim}
-use Prim.Native.Nat.{ℕ, _+_, _-_, _≤_, _<_}
+use Prim.Native.Nat.{ℕ, suc, _+_, _-_, _≤_, _<_}
 use native.Mathlib.Nat.{eq-zero-or-pos}
 use native.Mathlib.Omega.{arith}
-use lib.Dec.{T}
+use lib.Dec.{T, leb, leb→le, eqb, eqb→eq}
+use mir.Facts.{or-yes}
 use lib.ListN.{length, getD, take, replicate, length-append, length-replicate}
 use lib.Seq.{length-take-le, take-at}
 use Rattle.wire.specs.Lists.{isByte, allBytes}
-use Rattle.wire.proofs.ListsLaws.{all-take, all-replicate, all-append, zeros-from, getD-zeros}
+use Rattle.wire.proofs.ListsLaws.{byte-at, all-take, all-replicate, all-append, zeros-from, getD-zeros}
 use Rattle.frame.specs.Push.{bodySizeAs, lengthOf, headerOf, frameSize, bodySize, storesBody, stored}
 use Rattle.frame.specs.Reach.{reachableOf}
-use Rattle.frame.specs.Cut.{keptOf, partialOf, LeftBySome}
+use Rattle.frame.specs.Cut.{keptOf, partialOf, longSong, LeftBySome}
+use Rattle.frame.specs.FrameTable.{dataLength, headerSize}
+use Rattle.frame.specs.declared.Length.{Length}
+use Rattle.frame.specs.declared.Length.the-variants.{Fixed, Counted, Song, Unknown}
 use Rattle.frame.specs.declared.Partial.{Partial}
-use Rattle.frame.proofs.PushLaws.{header-le, header-le-frame, Agree, header-agree, frame-agree, stores-agree, partial-eq}
+use Rattle.frame.proofs.FrameTableLaws.{code, fixed-small, only-these}
+use Rattle.frame.proofs.PushLaws.{header-le, header-le-frame, stored-fits, Agree, header-agree, frame-agree, stores-agree, partial-eq}
 use Rattle.frame.proofs.ReachLaws.{Places, Stage, in-header, storing, skipping, places-of, stage-of, stored-room, empty-is}
 use Rattle.frame.proofs.StoredLaws.{kept-all, kept-header, partial-in-header, partial-known, partial-as-sent}
 
@@ -59,6 +64,7 @@ module _ (p : Partial) (q : Places (p .bytes) (p .count)) (some : 0 < p .count) 
         list = sent m;
         small = sent-bytes m;
         leaves = partial-as-sent (sent m) (sent-bytes m) (omega arith) (omega arith) ∙ e ∙ as-stored;
+        unfinished = λ h. omega arith;
       }
 
   -- what `partialOf` says of them, by the stage
@@ -106,6 +112,45 @@ left-at p q some (skipping a r k e) =
 
 pub reachable-left : (p : Partial) → T (reachableOf p) → LeftBySome p
 reachable-left p t =
-    ⊎-elim (λ (e : p .count ≡ 0). record { list = []; small = tt; leaves = sym (empty-is p t e) })
+    ⊎-elim (λ (e : p .count ≡ 0). record { list = []; small = tt; leaves = sym (empty-is p t e); unfinished = λ h. absurd (omega arith) })
     (λ (some : 0 < p .count). left-at p (places-of p t) some (stage-of p t))
     (eq-zero-or-pos (p .count))
+
+-- ---- 510 bytes remaining
+
+-- only a song has a body of 510 bytes, and only where its count is 255
+body-of-510 : (l : Length) (bs : List ℕ) → T (leb (code l) (code (Fixed 4))) → getD bs 1 0 < 256 → getD bs 2 0 < 256 → 510 ≤ bodySizeAs l bs
+    → (l ≡ Song) × (getD bs 2 0 ≡ 255)
+unfolding bodySizeAs
+body-of-510 (Fixed n) bs t p q h = let m : suc (suc (suc n)) ≤ 7 = leb→le (code (Fixed n)) 7 t in absurd (omega arith)
+body-of-510 Counted bs t p q h = absurd (omega arith)
+body-of-510 Song bs t p q h = (refl, omega arith)
+body-of-510 Unknown bs t p q h = absurd (omega arith)
+
+take-three : (l : List ℕ) → 3 ≤ length l → take 3 l ≡ getD l 0 0 ∷ getD l 1 0 ∷ getD l 2 0 ∷ []
+take-three [] h = absurd (omega arith)
+take-three (a ∷ []) h = absurd (omega arith)
+take-three (a ∷ (b ∷ [])) h = absurd (omega arith)
+take-three (a ∷ (b ∷ (c ∷ l))) h = refl
+
+song-of : (op : ℕ) → op < 256 → dataLength op ≡ Song → op ≡ 140
+unfolding dataLength
+song-of op h e = ⊎-elim (eqb→eq op 140) (λ f. absurd f) (or-yes (eqb op 140) false (only-these Song (140 ∷ []) tt op h e))
+
+pub only-song : (p : Partial) → T (reachableOf p) → p .remaining ≡ 510 → p ≡ longSong (getD (p .bytes) 1 0) 510
+only-song p t r = at (stage-of p t)
+  where
+    at : Stage p → p ≡ longSong (getD (p .bytes) 1 0) 510
+    at (in-header a z) = absurd (omega arith)
+    at (storing a h l k e) = let f = stored-fits (p .bytes) (places-of p t .small) k in absurd (omega arith)
+    at (skipping h l k e) =
+        let q = places-of p t in
+        let op = byte-at (p .bytes) (q .small) 0 in
+        let s = body-of-510 (lengthOf (p .bytes)) (p .bytes) (fixed-small (getD (p .bytes) 0 0) op) (byte-at (p .bytes) (q .small) 1) (byte-at (p .bytes) (q .small) 2) (omega arith) in
+        let three : p .count ≡ 3 = e ∙ ap headerSize (s .0) in
+        let long = q .long in
+        sym (as-stored p q (omega arith) (omega arith))
+        ∙ ap₂ stored
+        (ap (λ (n : ℕ). take n (p .bytes)) three ∙ take-three (p .bytes) (omega arith)
+        ∙ ap₂ (λ (a c : ℕ). a ∷ getD (p .bytes) 1 0 ∷ c ∷ []) (song-of (getD (p .bytes) 0 0) op (s .0)) (s .1))
+        r

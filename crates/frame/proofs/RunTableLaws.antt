@@ -13,7 +13,7 @@ use lib.Seq.{getD-set-same}
 use mir.Facts.{yes-ltb}
 use borrow.Author.Tests.{le-leb, lt-leb, eq-eqb, ne-eqb}
 use Rattle.wire.specs.Lists.{all, allFrom}
-use Rattle.wire.proofs.BoolLaws.{implied, pos-eqb, leb-pred}
+use Rattle.wire.proofs.BoolLaws.{implied, pos-eqb, one-or-less, leb-pred}
 use Rattle.wire.proofs.ListsLaws.{from, byte-at}
 use Rattle.frame.specs.FrameTable.{dataLength, headerSize}
 use Rattle.frame.specs.Push.{bodySizeAs, lengthOf, headerOf, bodySize, measureOf, pushOf, emptyPartial, nextOf, beginsFrame, opcodes}
@@ -164,12 +164,6 @@ module _ (p : Partial) (t : T (reachableOf p)) (z : p .remaining ≡ 0) (h : 0 <
 steps-empty : Steps emptyPartial
 unfolding waits nextOf dataLength bodySizeAs
 steps-empty = (refl, refl)
-
-one-or-less : (n : ℕ) → 0 < n → eqb n 1 ≡ leb n 1
-one-or-less n h =
-    ⊎-elim (λ (e : 1 ≡ n). eq-eqb n 1 (sym e) ∙ sym (le-leb n 1 (omega arith)))
-    (λ (m : 1 < n). ne-eqb n 1 (λ (e : n ≡ 1). omega arith) ∙ sym (lt-leb n 1 m))
-    (eq-or-lt-of-le h)
 
 -- a byte of the body, of any partial frame
 steps-body : (p : Partial) → 0 < p .remaining → Steps p

@@ -12,9 +12,9 @@ use lib.ListN.{length, take, length-append, List·getD-append}
 use lib.Seq.{take-all, take-append-le, getD-take}
 use mir.Facts.{and-yes, yes-and}
 use borrow.Author.Tests.{lt-ltb, le-ltb, eq-eqb, ne-eqb}
-use Rattle.wire.specs.Lists.{isByte, allBytes}
+use Rattle.wire.specs.Lists.{isByte, allBytes, padded}
 use Rattle.wire.proofs.BoolLaws.{le-or-lt, eqb-iff, cond-true, cond-false}
-use Rattle.wire.proofs.ListsLaws.{all-append, getD-zeros, set-zeros}
+use Rattle.wire.proofs.ListsLaws.{all-append, getD-zeros, set-padded}
 use Rattle.frame.specs.FrameTable.{dataLength, headerSize}
 use Rattle.frame.specs.Push.{bodySizeAs, lengthOf, headerOf, frameSize, bodySize, storesBody, measureOf, pushOf, stored, emptyPartial, nextOf, afterOf}
 use Rattle.frame.specs.Cut.{keptOf, partialOf}
@@ -22,10 +22,7 @@ use Rattle.frame.specs.declared.Partial.{Partial}
 use Rattle.frame.specs.declared.Pushed.{Pushed}
 use Rattle.frame.proofs.PushLaws.{header-pos, header-le, header-le-frame, stored-fits, Agree, header-agree, frame-agree, body-agree, stores-agree, partial-eq, measure-waits, measure-known, push-header, push-stored, push-skipped, next-more, after-append}
 
-abbrev padded : List ℕ → List ℕ
-padded l = stored l 0 .bytes
-
-pad-agree : (n : ℕ) (l : List ℕ) → Agree n (padded l) l
+pad-agree : (n : ℕ) (l : List ℕ) → Agree n (padded 35 l) l
 pad-agree n l i h = getD-zeros l (35 - length l) i
 
 -- ---- the parts of `partialOf`
@@ -75,15 +72,15 @@ module _ (bs : List ℕ) (b : ℕ) where
       let n = more-length in
       let fl = header-le-frame (lengthOf more) more in
       let same = pad-agree (headerOf more) more in
-      let hd = header-agree (padded more) more same in
+      let hd = header-agree (padded 35 more) more same in
       let grown : pushOf (stored bs 0) b ≡ measureOf (stored more 0) =
       push-header (stored bs 0) b refl (omega arith)
-      ∙ ap measureOf (partial-eq _ (padded more) (length bs + 1) (length more) 0 0 (set-zeros bs 35 b (omega arith)) (sym n) refl) in
+      ∙ ap measureOf (partial-eq _ (padded 35 more) (length bs + 1) (length more) 0 0 (set-padded 35 bs b (omega arith)) (sym n) refl) in
       ⊎-elim (λ (e : length bs + 1 ≡ headerOf more).
       grown ∙ measure-known (stored more 0) (omega arith)
       ∙ pushed _ _ _ _
-      (ap (stored more) (body-agree (padded more) more same ∙ omega arith) ∙ sym (partial-known more more (omega arith) (kept-short more (omega arith))))
-      (ap (λ (m : ℕ). eqb m 0) (body-agree (padded more) more same)
+      (ap (stored more) (body-agree (padded 35 more) more same ∙ omega arith) ∙ sym (partial-known more more (omega arith) (kept-short more (omega arith))))
+      (ap (λ (m : ℕ). eqb m 0) (body-agree (padded 35 more) more same)
       ∙ eqb-iff (bodySize more) 0 (length more) (frameSize more) (λ (z : bodySize more ≡ 0). omega arith) (λ (z : length more ≡ frameSize more). omega arith)))
       (λ (l : length bs + 1 < headerOf more).
       grown ∙ measure-waits (stored more 0) (omega arith)
@@ -107,14 +104,14 @@ module _ (bs : List ℕ) (b : ℕ) where
         let n = more-length in
         let hd = header-agree more bs same in
         let f = frame-agree more bs same in
-        push-stored (stored bs (frameSize bs - length bs)) b (omega arith) (stores-agree (padded bs) bs (pad-agree (headerOf bs) bs) ∙ k) room
+        push-stored (stored bs (frameSize bs - length bs)) b (omega arith) (stores-agree (padded 35 bs) bs (pad-agree (headerOf bs) bs) ∙ k) room
         ∙ pushed _ _ _ _
-        (partial-eq _ (padded more) (length bs + 1) (length more) (frameSize bs - length bs - 1) (frameSize more - length more) (set-zeros bs 35 b room) (sym n) (omega arith)
+        (partial-eq _ (padded 35 more) (length bs + 1) (length more) (frameSize bs - length bs - 1) (frameSize more - length more) (set-padded 35 bs b room) (sym n) (omega arith)
         ∙ sym (partial-known more more (omega arith) (kept-all more (stores-agree more bs same ∙ k))))
         completes
 
     -- the header, in the first of the places, decides as the bytes do
-    header-same : Agree (headerOf bs) (padded (take (headerOf bs) bs)) bs
+    header-same : Agree (headerOf bs) (padded 35 (take (headerOf bs) bs)) bs
     header-same i a = getD-zeros (take (headerOf bs) bs) (35 - length (take (headerOf bs) bs)) i ∙ getD-take (headerOf bs) bs i 0 a
 
     right-skipped : storesBody bs ≡ false → Right bs b (pushOf (stored (take (headerOf bs) bs) (frameSize bs - length bs)) b)
@@ -123,7 +120,7 @@ module _ (bs : List ℕ) (b : ℕ) where
         let hd = header-agree more bs same in
         let f = frame-agree more bs same in
         let e : frameSize bs - length bs - 1 ≡ frameSize more - length more = omega arith in
-        push-skipped (stored (take (headerOf bs) bs) (frameSize bs - length bs)) b (omega arith) (stores-agree (padded (take (headerOf bs) bs)) bs header-same ∙ k)
+        push-skipped (stored (take (headerOf bs) bs) (frameSize bs - length bs)) b (omega arith) (stores-agree (padded 35 (take (headerOf bs) bs)) bs header-same ∙ k)
         ∙ pushed _ _ _ _
         (ap (stored (take (headerOf bs) bs)) e
         ∙ sym

@@ -1,4 +1,4 @@
--- What the cut guarantees: the theorems of this crate, each field one sentence of document 01.
+-- What the cut guarantees: the theorems of this crate.
 -- Assumes nothing.
 use mathlib.Core.Path.{_≡_}
 use mathlib.Core.Bool.{true, false, cond}
@@ -6,19 +6,41 @@ use mathlib.Core.List.{List, [], _∷_, _++_}
 use Prim.Native.Nat.{ℕ, _-_, _≤_, _<_}
 use lib.Dec.{T, leb, ltb}
 use lib.ListN.{length, getD, take, replicate}
-use Rattle.wire.specs.Lists.{all, allBytes}
+use Rattle.wire.specs.Lists.{all, allFrom, allBytes}
 use Rattle.frame.specs.FrameTable.{dataLength, dataBytes}
 use Rattle.frame.specs.Push.{headerOf, frameSize, storesBody, pushOf, stored, emptyPartial, nextOf, afterOf, beginsFrame, opcodes}
-use Rattle.frame.specs.Reach.{reachableOf}
+use Rattle.frame.specs.Reach.{isArray, reachableOf}
 use Rattle.frame.specs.RunTable.{runTable, waits, rowRuns}
+use Rattle.frame.specs.Cases.{frameCases, caseRight, countRight}
 use Rattle.frame.specs.declared.Partial.{Partial}
 
--- THEOREM: a frame is an opcode and as many data bytes as the frame table says, whatever they are: none of them is read as an opcode,
--- and nothing is stored after the last
+-- THEOREM: the cut in numbers
+pub record CutInNumbers : Type 0 where
+  pub cases-right : T (all caseRight frameCases)
+  pub counts-right : T (allFrom countRight 0 256)
+
+-- THEOREM: a frame is an opcode and as many data bytes as the frame table says, whatever they are
 pub record CutByTable : Type 0 where
+  -- none of them is read as an opcode, and after the last the partial frame is empty
   pub data-not-opcodes : (op : ℕ) (ds : List ℕ) → length ds ≡ dataBytes (dataLength op) (op ∷ ds)
       → opcodes emptyPartial (op ∷ ds) ≡ true ∷ replicate (length ds) false
   pub then-empty : (op : ℕ) (ds : List ℕ) → length ds ≡ dataBytes (dataLength op) (op ∷ ds) → afterOf emptyPartial (op ∷ ds) ≡ emptyPartial
+  -- a frame of which the first bytes bs have come is finished first, by the rest of it
+  pub rest-not-opcodes : (bs ds : List ℕ) → 0 < length bs → length (bs ++ ds) ≡ frameSize (bs ++ ds)
+      → opcodes (afterOf emptyPartial bs) ds ≡ replicate (length ds) false
+  pub rest-then-empty : (bs ds : List ℕ) → 0 < length bs → length (bs ++ ds) ≡ frameSize (bs ++ ds) → afterOf (afterOf emptyPartial bs) ds ≡ emptyPartial
+  -- and every later frame is cut in the same way
+  pub opcodes-append : (p : Partial) (bs cs : List ℕ) → opcodes p (bs ++ cs) ≡ opcodes p bs ++ opcodes (afterOf p bs) cs
+  pub after-append : (p : Partial) (bs cs : List ℕ) → afterOf p (bs ++ cs) ≡ afterOf (afterOf p bs) cs
+
+-- THEOREM: what holds of what a byte leaves, of every partial frame, reachable or not
+pub record EveryPush : Type 0 where
+  -- it has 35 places, each a byte
+  pub stays-array : (p : Partial) (b : ℕ) → T (isArray p) → b < 256 → T (isArray (pushOf p b .partial))
+  -- a full frame stores nothing more
+  pub full-stays : (p : Partial) (b : ℕ) → 35 ≤ p .count → (pushOf p b .partial .bytes ≡ p .bytes) × (pushOf p b .partial .count ≡ p .count)
+  -- of a complete frame nothing remains
+  pub complete-done : (p : Partial) (b : ℕ) → pushOf p b .complete ≡ true → pushOf p b .partial .remaining ≡ 0
 
 -- what is kept of a frame's bytes: all, or, past its legal count and in a 152, those up to the count byte
 abbrev pub keptOf : List ℕ → List ℕ
@@ -32,11 +54,11 @@ remainingOf bs = cond (ltb (length bs) (headerOf bs)) 0 (frameSize bs - length b
 abbrev pub partialOf : List ℕ → Partial
 partialOf bs = stored (keptOf bs) (remainingOf bs)
 
--- THEOREM: what is stored is what was sent. (No frame is empty, so bs in `complete-as-sent` may be.)
+-- THEOREM: what is stored is what was sent
 pub record StoredAsSent : Type 0 where
   -- between two bytes
   pub partial-as-sent : (bs : List ℕ) → T (allBytes bs) → 0 < length bs → length bs < frameSize bs → afterOf emptyPartial bs ≡ partialOf bs
-  -- at the last byte
+  -- at the last byte, b; bs is empty for a frame of one byte
   pub complete-as-sent : (bs : List ℕ) (b : ℕ) → T (allBytes bs) → length (bs ++ (b ∷ [])) ≡ frameSize (bs ++ (b ∷ []))
       → pushOf (afterOf emptyPartial bs) b ≡ record { partial = partialOf (bs ++ (b ∷ [])); complete = true }
 
@@ -45,6 +67,8 @@ pub record LeftBySome (p : Partial) : Type 0 where
   pub list : List ℕ
   pub small : T (allBytes list)
   pub leaves : afterOf emptyPartial list ≡ p
+  -- the list is the first bytes of one frame
+  pub unfinished : 0 < length list → length list < frameSize list
 
 -- THEOREM: `reachableOf` holds of what any list of bytes leaves from nothing, and of nothing else
 pub record ReachableExact : Type 0 where
@@ -84,3 +108,5 @@ pub record RemainingNeeded : Type 0 where
   -- so from 140 s 255 with k bytes remaining k bytes come before the next opcode; each such frame is reachable
   pub song-needs : (s k : ℕ) (bs : List ℕ) → 0 < k → beginsFrame (afterOf (longSong s k) bs) ≡ true → k ≤ length bs
   pub song-reachable : (s k : ℕ) → s < 256 → 0 < k → k ≤ 510 → T (reachableOf (longSong s k))
+  -- and no other frame has 510 bytes remaining
+  pub only-song : (p : Partial) → T (reachableOf p) → p .remaining ≡ 510 → p ≡ longSong (getD (p .bytes) 1 0) 510

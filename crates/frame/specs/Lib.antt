@@ -2,4 +2,5 @@ pub mod FrameTable
 pub mod Push
 pub mod Reach
 pub mod RunTable
+pub mod Cases
 pub mod Cut

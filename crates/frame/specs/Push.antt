@@ -2,10 +2,11 @@
 -- its length, and its body, the data bytes after that.
 -- Assumes nothing.
 use mathlib.Core.Bool.{Bool, true, false, not, cond, _&&_}
-use mathlib.Core.List.{List, [], _∷_, _++_}
+use mathlib.Core.List.{List, [], _∷_}
 use Prim.Native.Nat.{ℕ, _+_, _-_}
 use lib.Dec.{leb, ltb, eqb}
-use lib.ListN.{length, getD, set, replicate}
+use lib.ListN.{length, getD, set}
+use Rattle.wire.specs.Lists.{padded}
 use Rattle.frame.specs.FrameTable.{dataLength, dataBytes, headerSize}
 use Rattle.frame.specs.declared.Length.{Length}
 use Rattle.frame.specs.declared.Length.the-variants.{Fixed, Counted, Song, Unknown}
@@ -21,11 +22,18 @@ frameSizeAs l bytes = 1 + dataBytes l bytes
 unfoldable pub bodySizeAs : Length → List ℕ → ℕ
 bodySizeAs l bytes = frameSizeAs l bytes - headerSize l
 
+-- the most that is legal, of the notes of a song and of the ids of a list
+abbrev pub legalCount : ℕ → Bool
+legalCount n = leb n 16
+
+abbrev pub isScript : List ℕ → Bool
+isScript bytes = eqb (getD bytes 0 0) 152
+
 -- whether the body is stored: not past a legal count, and not in a 152
 abbrev pub storesBodyAs : Length → List ℕ → Bool
 storesBodyAs (Fixed n) bytes = true
-storesBodyAs Counted bytes = not (eqb (getD bytes 0 0) 152) && leb (getD bytes 1 0) 16
-storesBodyAs Song bytes = leb (getD bytes 2 0) 16
+storesBodyAs Counted bytes = not (isScript bytes) && legalCount (getD bytes 1 0)
+storesBodyAs Song bytes = legalCount (getD bytes 2 0)
 storesBodyAs Unknown bytes = true
 
 abbrev pub lengthOf : List ℕ → Length
@@ -62,7 +70,8 @@ bodyByteOf p b =
     let q = cond (storesBody (p .bytes)) (appendOf p b) p in
     record { partial = record { bytes = q .bytes; count = q .count; remaining = p .remaining - 1 }; complete = eqb (p .remaining) 1 }
 
--- while nothing is known to remain the byte is an opcode or another byte of the header; else it is one of the body
+-- while nothing is known to remain the byte is an opcode or another byte of the header; else it is one of the body. On a frame that is not
+-- reachable, of which the papers say nothing, the two numbers and the first bytes decide in the same way.
 abbrev pub pushOf : Partial → ℕ → Pushed
 pushOf p b = cond (eqb (p .remaining) 0) (measureOf (appendOf p b)) (bodyByteOf p b)
 
@@ -70,7 +79,7 @@ pushOf p b = cond (eqb (p .remaining) 0) (measureOf (appendOf p b)) (bodyByteOf 
 
 -- these bytes in the first of the 35 places, 0 in the others, and n remaining
 abbrev pub stored : List ℕ → ℕ → Partial
-stored bs n = record { bytes = bs ++ replicate (35 - length bs) 0; count = length bs; remaining = n }
+stored bs n = record { bytes = padded 35 bs; count = length bs; remaining = n }
 
 -- nothing is stored (document 01: nothing is held)
 abbrev pub emptyPartial : Partial

@@ -20,7 +20,7 @@ unusedZero p = allZero (drop (p .count) (p .bytes))
 abbrev pub remainingFits : Partial → Bool
 remainingFits p = leb (p .remaining) (bodySize (p .bytes))
 
--- the header is stored, and all of the body that came
+-- as many bytes are stored after the header as of the body came
 abbrev pub bodyStored : Partial → Bool
 bodyStored p = eqb (p .count - headerOf (p .bytes)) (bodySize (p .bytes) - p .remaining)
 

@@ -18,6 +18,9 @@ ghost use Rattle.frame.specs.FrameTable.{dataLength, headerSize};
 ghost use Rattle.frame.specs.Push.{bodySize, storesBody, appendOf, measureOf, pushOf, emptyPartial, nextOf};
 ghost use Rattle.frame.specs.Reach.{reachableOf};
 
+// The most notes of a song, and the most ids of a list, that are legal.
+const LEGAL_COUNT: u8 = 16;
+
 // How many data bytes follow an opcode.
 pub enum Length {
     // A number that the opcode alone gives.
@@ -31,7 +34,7 @@ pub enum Length {
 }
 
 // A partial frame (document 01: the held frame): the bytes stored, their number, and how many bytes remain (document 01: are
-// owed). Empty where count is 0; remaining is 0 while the length is not known.
+// owed). It is empty where both numbers are 0; remaining is 0 while the length is not known.
 #[repr(C)]
 pub struct Partial {
     pub bytes: [u8; 35],
@@ -45,7 +48,7 @@ pub struct Pushed {
     pub complete: bool,
 }
 
-// The one place where framing is decided.
+// The one place where framing is decided. One test over opcodes 0 to 255 holds this match against the frame table.
 pub fn data_length(op: u8) -> Length
     ensures { λ r. ⌜ r ≡ dataLength op ⌝ }
 {
@@ -92,8 +95,8 @@ fn stores_body(bytes: [u8; 35]) -> bool
     let op = bytes[0];
     match data_length(op) {
         Length::Fixed(_) => true,
-        Length::Counted => op != 152 && bytes[1] <= 16,
-        Length::Song => bytes[2] <= 16,
+        Length::Counted => op != 152 && bytes[1] <= LEGAL_COUNT,
+        Length::Song => bytes[2] <= LEGAL_COUNT,
         Length::Unknown => true,
     }
 }
@@ -137,7 +140,7 @@ fn measure(p: Partial) -> Pushed
 }
 
 // One byte, taken by the partial frame; a complete frame comes back as it is stored, with 0 remaining. What is given on a frame that
-// is not reachable is free in the papers: it is what the same definition says there, with no place past the 35 written.
+// is not reachable is free in the papers: it is what the same definition says there (specs/Cut.antt, EveryPush).
 pub fn push(p: Partial, b: u8) -> Pushed
     ensures { λ r. ⌜ r ≡ pushOf p b ⌝ }
 {

@@ -2,11 +2,12 @@
 -- Assumes nothing.
 use mathlib.Core.Path.{_≡_, refl, sym, ap, subst, _∙_}
 use mathlib.Core.Bool.{Bool, true, false, not, cond, _||_}
-use mathlib.Core.Logic.{_⊎_, inl, inr}
+use mathlib.Core.Logic.{_⊎_, inl, inr, ⊎-elim}
 use Prim.Native.Nat.{ℕ, zero, suc, _-_, _≤_, _<_, zero-le, suc-le-suc}
+use native.Mathlib.Nat.{eq-or-lt-of-le}
 use native.Mathlib.Omega.{arith}
 use lib.Dec.{T, leb, eqb, leb·zero, leb·suc-suc}
-use borrow.Author.Tests.{leb-true, leb-false, eqb-true, eqb-false, eq-eqb, ne-eqb}
+use borrow.Author.Tests.{le-leb, lt-leb, leb-true, leb-false, eqb-true, eqb-false, eq-eqb, ne-eqb}
 
 pub is-true : (b : Bool) → T b → b ≡ true
 is-true true t = refl
@@ -48,6 +49,15 @@ not-zero (suc n) e = suc-le-suc zero-le
 
 pub pos-eqb : (n : ℕ) → 0 < n → eqb n 0 ≡ false
 pos-eqb n h = ne-eqb n 0 (λ (e : n ≡ 0). omega arith)
+
+pub one-or-less : (n : ℕ) → 0 < n → eqb n 1 ≡ leb n 1
+one-or-less n h =
+    ⊎-elim (λ (e : 1 ≡ n). eq-eqb n 1 (sym e) ∙ sym (le-leb n 1 (omega arith)))
+    (λ (m : 1 < n). ne-eqb n 1 (λ (e : n ≡ 1). omega arith) ∙ sym (lt-leb n 1 m))
+    (eq-or-lt-of-le h)
+
+pub not-one : (n : ℕ) → 0 < n → eqb n 1 ≡ false → 1 < n
+not-one n h w = ⊎-elim (λ (e : 1 ≡ n). absurd (eqb-false n 1 w (sym e))) (λ q. q) (eq-or-lt-of-le h)
 
 pub leb-pred : (m k : ℕ) → leb (m - 1) k ≡ leb m (suc k)
 leb-pred zero k = leb·zero k ∙ sym (leb·zero (suc k))

@@ -9,11 +9,11 @@ use native.Mathlib.Nat.{eq-or-lt-of-le}
 use native.Mathlib.Numerals.{add-one}
 use native.Mathlib.Omega.{arith}
 use lib.Dec.{T, eqb, eqb→eq, ltb→lt, leb, leb→le}
-use lib.ListN.{length, getD, set, take, drop, replicate, length-append, length-drop, take-append-drop}
+use lib.ListN.{length, getD, set, take, drop, replicate, length-append, length-drop, length-set, take-append-drop}
 use lib.Seq.{drop-cons, set-append-seam}
 use mir.Facts.{and-yes, yes-and, yes-ltb}
 use borrow.Author.Tests.{lt-ltb}
-use Rattle.wire.specs.Lists.{all, allFrom, isZero, isByte, allZero, allBytes}
+use Rattle.wire.specs.Lists.{all, allFrom, padded, isZero, isByte, allZero, allBytes, byteArray}
 
 -- ---- lists from an index on
 
@@ -29,12 +29,12 @@ getD-zeros [] (suc k) (suc i) = getD-zeros [] k i
 getD-zeros (x ∷ xs) k zero = refl
 getD-zeros (x ∷ xs) k (suc i) = getD-zeros xs k i
 
--- a store at the first of n places that are not in use
-pub set-zeros : (l : List ℕ) (n b : ℕ) → length l < n
-    → set (l ++ replicate (n - length l) 0) (length l) b ≡ (l ++ (b ∷ [])) ++ replicate (n - length (l ++ (b ∷ []))) 0
-set-zeros l n b h =
-    let e : n - length l ≡ suc (n - length (l ++ (b ∷ []))) = omega (arith, length-append l (b ∷ [])) in
-    rw e (set-append-seam l 0 (replicate (n - length (l ++ (b ∷ []))) 0) b ∙ sym (append-assoc l (b ∷ []) (replicate (n - length (l ++ (b ∷ []))) 0)))
+-- a store at the first place that is not in use
+pub set-padded : (n : ℕ) (l : List ℕ) (b : ℕ) → length l < n → set (padded n l) (length l) b ≡ padded n (l ++ (b ∷ []))
+set-padded n l b h =
+    let k = n - length (l ++ (b ∷ [])) in
+    let e : n - length l ≡ suc k = omega (arith, length-append l (b ∷ [])) in
+    rw e (set-append-seam l 0 (replicate k 0) b ∙ sym (append-assoc l (b ∷ []) (replicate k 0)))
 
 -- ---- all
 
@@ -108,6 +108,11 @@ bytes-true (x ∷ xs) h = simp (lt-ltb x 256 (h 0), bytes-true xs (λ i. h (suc 
 
 pub bytes-set : (l : List ℕ) (i b : ℕ) → T (allBytes l) → b < 256 → T (allBytes (set l i b))
 bytes-set l i b t h = all-set isByte l i b t (yes-ltb h)
+
+pub array-set : (n : ℕ) (l : List ℕ) (i b : ℕ) → T (byteArray n l) → b < 256 → T (byteArray n (set l i b))
+array-set n l i b t h =
+    let s = and-yes (eqb (length l) n) (allBytes l) t in
+    yes-and (eqb (length (set l i b)) n) (allBytes (set l i b)) (rw (length-set l i b) (s .0)) (bytes-set l i b (s .1) h)
 
 pub zeros-are : (l : List ℕ) → T (allZero l) → l ≡ replicate (length l) 0
 zeros-are [] t = refl

@@ -81,16 +81,17 @@ read-fits : (hi lo : ℕ) → hi < 256 → lo < 256 → SFits w16 (read16Of hi l
 unfolding read16Of
 read-fits hi lo p q = signed-fits (hi * 256 + lo) (omega arith)
 
-least : (be16 (negsuc 32767) ≡ 128 ∷ 0 ∷ []) × (read16Of 128 0 ≡ negsuc 32767)
-unfolding read16Of
-least = (refl, refl)
-
 pub round-trip16 : RoundTrip16
+unfolding read16Of
 round-trip16 =
     record {
       read-written = read-written;
       written-read = written-read;
-      least = least;
+      complement = λ n h. omega arith;
+      w3 = (refl, refl);
+      w5 = (refl, refl);
+      w6-right = (refl, refl);
+      w6-left = (refl, refl);
       high-byte = λ v f. (let s = bits-small v f in omega arith);
       low-byte = λ v. omega arith;
       read-fits = read-fits;

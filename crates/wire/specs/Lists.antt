@@ -1,10 +1,10 @@
 -- Tests over lists of numbers: every element, the numbers of a range, bytes.
 -- Assumes nothing.
 use mathlib.Core.Bool.{Bool, true, false, _&&_, _||_}
-use mathlib.Core.List.{List, [], _∷_}
+use mathlib.Core.List.{List, [], _∷_, _++_}
 use Prim.Native.Nat.{ℕ, zero, suc, _-_}
 use lib.Dec.{leb, ltb, eqb}
-use lib.ListN.{length}
+use lib.ListN.{length, replicate}
 
 -- the test passes at every element
 abbrev pub all {ℓ} : {A : Type ℓ} → (A → Bool) → List A → Bool
@@ -33,6 +33,17 @@ among (x ∷ xs) k = eqb k x || among xs k
 -- k is from lo to hi
 abbrev pub within : ℕ → ℕ → ℕ → Bool
 within lo hi k = leb lo k && leb k hi
+
+-- a list in the first of n places, and 0 in the others
+abbrev pub padded : ℕ → List ℕ → List ℕ
+padded n l = l ++ replicate (n - length l) 0
+
+-- two lists are the same
+abbrev pub sameList : List ℕ → List ℕ → Bool
+sameList [] [] = true
+sameList [] (y ∷ ys) = false
+sameList (x ∷ xs) [] = false
+sameList (x ∷ xs) (y ∷ ys) = eqb x y && sameList xs ys
 
 abbrev pub isZero : ℕ → Bool
 isZero x = eqb x 0

@@ -32,12 +32,21 @@ signed16 n = cond (ltb n 32768) (pos n) (negsuc (65535 - n))
 unfoldable pub read16Of : ℕ → ℕ → ℤ
 read16Of hi lo = signed16 (hi * 256 + lo)
 
+-- a value and its two bytes, both ways
+abbrev pub Shown : ℤ → ℕ → ℕ → Type 0
+Shown v hi lo = (be16 v ≡ hi ∷ lo ∷ []) × (read16Of hi lo ≡ v)
+
 -- THEOREM: what is written is read back, and what is read is written back, for every value of i16 and all bytes
 pub record RoundTrip16 : Type 0 where
   pub read-written : (v : ℤ) → SFits w16 v → read16Of (high16Of v) (low16Of v) ≡ v
   pub written-read : (hi lo : ℕ) → hi < 256 → lo < 256 → be16 (read16Of hi lo) ≡ hi ∷ lo ∷ []
-  -- the least value, which has no opposite
-  pub least : (be16 (negsuc 32767) ≡ 128 ∷ 0 ∷ []) × (read16Of 128 0 ≡ negsuc 32767)
+  -- the bits of -(n + 1) and n + 1 make 65536
+  pub complement : (n : ℕ) → n < 32768 → bits16Of (negsuc n) + (n + 1) ≡ 65536
+  -- the values of W3, W5 and W6: -200; -32768, which has no opposite; 500; -500
+  pub w3 : Shown (negsuc 199) 255 56
+  pub w5 : Shown (negsuc 32767) 128 0
+  pub w6-right : Shown (pos 500) 1 244
+  pub w6-left : Shown (negsuc 499) 254 12
   -- both bytes are bytes, and the number is one of i16
   pub high-byte : (v : ℤ) → SFits w16 v → high16Of v < 256
   pub low-byte : (v : ℤ) → low16Of v < 256
