@@ -203,7 +203,8 @@ append-array p b t h = go (leb 35 (p .count)) refl
 
 pub stays-array : (p : Partial) (b : ℕ) → T (isArray p) → b < 256 → T (isArray (pushOf p b .partial))
 stays-array p b t h =
-    ⊎-elim (λ k. subst (λ (l : List ℕ). T (byteArray 35 l)) (sym (k .0)) (append-array p b t h)) (λ k. subst (λ (l : List ℕ). T (byteArray 35 l)) (sym (k .0)) t)
+    ⊎-elim (λ k. subst (λ (l : List ℕ). T (byteArray 35 l)) (sym (k .0)) (append-array p b t h))
+    (λ k. subst (λ (l : List ℕ). T (byteArray 35 l)) (sym (k .0)) t)
     (push-keeps p b)
 
 pub full-stays : (p : Partial) (b : ℕ) → 35 ≤ p .count → Keeps (pushOf p b .partial) p

@@ -7,11 +7,11 @@ use mathlib.Core.Logic.{⊎-elim}
 use Prim.Native.Nat.{ℕ, _+_, _-_, _≤_, _<_}
 use native.Mathlib.Nat.{eq-zero-or-pos, eq-or-lt-of-le}
 use native.Mathlib.Omega.{arith}
-use lib.Dec.{T, ltb, eqb, eqb→eq, leb→le, ltb→lt}
+use lib.Dec.{T, ltb, eqb, eqb→eq, ltb→lt}
 use lib.ListN.{length, set, drop, replicate, length-set}
 use lib.Seq.{drop-set-lt}
 use mir.Facts.{and-yes, yes-and, yes-eqb}
-use borrow.Author.Tests.{ltb-true, ltb-false, eqb-false, not-true, lt-ltb, le-ltb, le-leb, eq-eqb}
+use borrow.Author.Tests.{ltb-true, ltb-false, not-true, lt-ltb, le-ltb, le-leb, eq-eqb, leb-true}
 use Rattle.wire.specs.Lists.{isZero, isByte, allZero, allBytes}
 use Rattle.wire.proofs.BoolLaws.{is-true, to-T, cond-cases, not-zero, pos-eqb, not-one}
 use Rattle.wire.proofs.ListsLaws.{bytes-set, all-later, zeros-are}
@@ -56,7 +56,8 @@ module _ (p : Partial) where
       let u = and-yes (not (eqb (p .remaining) 0)) (remainingFits p && cond (storesBody (p .bytes)) (bodyStored p) (headerAlone p)) t in
       let v = and-yes (remainingFits p) (cond (storesBody (p .bytes)) (bodyStored p) (headerAlone p)) (u .1) in
       let h = not-zero (p .remaining) (not-true (eqb (p .remaining) 0) (is-true (not (eqb (p .remaining) 0)) (u .0))) in
-      let r = leb→le (p .remaining) (bodySize (p .bytes)) (v .0) in
+      let f = is-true (remainingFits p) (v .0) in
+      let r : p .remaining ≤ bodySize (p .bytes) = omega (arith, leb-true) in
       ⊎-elim (λ q. storing a h r (q .0) (eqb→eq _ _ (q .1))) (λ q. skipping h r (q .0) (eqb→eq _ _ (q .1)))
       (cond-cases (storesBody (p .bytes)) (bodyStored p) (headerAlone p) (v .1))
 
@@ -115,7 +116,7 @@ position-of p t = at (stage-of p t)
 
 -- ---- a byte keeps `reachableOf`
 
-pub places-grown : (l : List ℕ) (n b : ℕ) → Places l n → n < 35 → b < 256 → Places (set l n b) (n + 1)
+places-grown : (l : List ℕ) (n b : ℕ) → Places l n → n < 35 → b < 256 → Places (set l n b) (n + 1)
 places-grown l n b q a hb =
     let h : n < length l = rw (q .long) a in
     record {

@@ -9,9 +9,9 @@ use Prim.Native.Nat.{ℕ, suc, _+_, _-_, _≤_, _<_}
 use native.Mathlib.Nat.{eq-zero-or-pos}
 use native.Mathlib.Omega.{arith}
 use lib.Dec.{T, leb, leb→le, eqb, eqb→eq}
-use mir.Facts.{or-yes}
 use lib.ListN.{length, getD, take, replicate, length-append, length-replicate}
 use lib.Seq.{length-take-le, take-at}
+use mir.Facts.{or-yes}
 use Rattle.wire.specs.Lists.{isByte, allBytes}
 use Rattle.wire.proofs.ListsLaws.{byte-at, all-take, all-replicate, all-append, zeros-from, getD-zeros}
 use Rattle.frame.specs.Push.{bodySizeAs, lengthOf, headerOf, frameSize, bodySize, storesBody, stored}
@@ -146,7 +146,9 @@ only-song p t r = at (stage-of p t)
     at (skipping h l k e) =
         let q = places-of p t in
         let op = byte-at (p .bytes) (q .small) 0 in
-        let s = body-of-510 (lengthOf (p .bytes)) (p .bytes) (fixed-small (getD (p .bytes) 0 0) op) (byte-at (p .bytes) (q .small) 1) (byte-at (p .bytes) (q .small) 2) (omega arith) in
+        let s =
+        body-of-510 (lengthOf (p .bytes)) (p .bytes) (fixed-small (getD (p .bytes) 0 0) op) (byte-at (p .bytes) (q .small) 1) (byte-at (p .bytes) (q .small) 2)
+        (omega arith) in
         let three : p .count ≡ 3 = e ∙ ap headerSize (s .0) in
         let long = q .long in
         sym (as-stored p q (omega arith) (omega arith))

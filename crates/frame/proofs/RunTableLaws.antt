@@ -11,7 +11,7 @@ use lib.Dec.{T, leb, ltb, eqb, eqb→eq}
 use lib.ListN.{length, getD, set, replicate}
 use lib.Seq.{getD-set-same}
 use mir.Facts.{yes-ltb}
-use borrow.Author.Tests.{le-leb, lt-leb, eq-eqb, ne-eqb}
+use borrow.Author.Tests.{lt-leb, eq-eqb}
 use Rattle.wire.specs.Lists.{all, allFrom}
 use Rattle.wire.proofs.BoolLaws.{implied, pos-eqb, one-or-less, leb-pred}
 use Rattle.wire.proofs.ListsLaws.{from, byte-at}
@@ -33,12 +33,12 @@ rows-run = tt
 
 -- ---- waits, by what is held
 
-pub waits-empty : waits emptyPartial ≡ 0
+waits-empty : waits emptyPartial ≡ 0
 unfolding waits
 waits-empty = refl
 
 -- while bytes remain, of any partial frame
-pub waits-remaining : (p : Partial) → 0 < p .remaining → waits p ≡ p .remaining
+waits-remaining : (p : Partial) → 0 < p .remaining → waits p ≡ p .remaining
 unfolding waits
 waits-remaining p h = simp (pos-eqb _ h) (omega arith)
 
@@ -97,7 +97,7 @@ body-as-128 Song bs n h a b =
 body-as-128 Unknown bs n h a b = absurd (omega arith)
 
 -- what a 128 does: it completes a frame where at most one byte is waited for, and one less is waited for after it
-abbrev pub Steps : Partial → Type 0
+abbrev Steps : Partial → Type 0
 Steps p = (pushOf p 128 .complete ≡ leb (waits p) 1) × (waits (nextOf p 128) ≡ waits p - 1)
 
 -- a 128 that does not complete the frame
@@ -187,7 +187,7 @@ steps p t = at (position-of p t)
 -- ---- which bytes of a run are opcodes
 
 -- the next byte is an opcode exactly where none is waited for
-pub begins-waits : (p : Partial) → T (reachableOf p) → beginsFrame p ≡ leb (waits p) 0
+begins-waits : (p : Partial) → T (reachableOf p) → beginsFrame p ≡ leb (waits p) 0
 begins-waits p t = at (position-of p t)
   where
     at : Position p → beginsFrame p ≡ leb (waits p) 0

@@ -12,7 +12,7 @@ use lib.ListN.{length, take, length-append, List·getD-append}
 use lib.Seq.{take-all, take-append-le, getD-take}
 use mir.Facts.{and-yes, yes-and}
 use borrow.Author.Tests.{lt-ltb, le-ltb, eq-eqb, ne-eqb}
-use Rattle.wire.specs.Lists.{isByte, allBytes, padded}
+use Rattle.wire.specs.Lists.{isByte, allBytes, snoc, padded}
 use Rattle.wire.proofs.BoolLaws.{le-or-lt, eqb-iff, cond-true, cond-false}
 use Rattle.wire.proofs.ListsLaws.{all-append, getD-zeros, set-padded}
 use Rattle.frame.specs.FrameTable.{dataLength, headerSize}
@@ -52,15 +52,16 @@ partial-known bs l h e = ap₂ stored e (cond-false _ 0 (frameSize bs - length b
 
 -- what the byte b after bs is to give
 abbrev Right : List ℕ → ℕ → Pushed → Type 0
-Right bs b r = r ≡ record { partial = partialOf (bs ++ (b ∷ [])); complete = eqb (length (bs ++ (b ∷ []))) (frameSize (bs ++ (b ∷ []))) }
+Right bs b r = r ≡ record { partial = partialOf (snoc bs b); complete = eqb (length (snoc bs b)) (frameSize (snoc bs b)) }
 
-pushed : (p q : Partial) (c d : Bool) → p ≡ q → c ≡ d → _≡_ {A = Pushed} (record { partial = p; complete = c }) (record { partial = q; complete = d })
+pushed : (p q : Partial) (c d : Bool) → p ≡ q → c ≡ d
+    → _≡_ {A = Pushed} (record { partial = p; complete = c }) (record { partial = q; complete = d })
 pushed p q c d e f = rw (e, f)
 
 -- in the header
 module _ (bs : List ℕ) (b : ℕ) where
   abbrev more : List ℕ
-  more = bs ++ (b ∷ [])
+  more = snoc bs b
 
   more-length : length more ≡ length bs + 1
   more-length = length-append bs (b ∷ [])
@@ -81,7 +82,9 @@ module _ (bs : List ℕ) (b : ℕ) where
       ∙ pushed _ _ _ _
       (ap (stored more) (body-agree (padded 35 more) more same ∙ omega arith) ∙ sym (partial-known more more (omega arith) (kept-short more (omega arith))))
       (ap (λ (m : ℕ). eqb m 0) (body-agree (padded 35 more) more same)
-      ∙ eqb-iff (bodySize more) 0 (length more) (frameSize more) (λ (z : bodySize more ≡ 0). omega arith) (λ (z : length more ≡ frameSize more). omega arith)))
+      ∙ eqb-iff (bodySize more) 0 (length more) (frameSize more)
+      (λ (z : bodySize more ≡ 0). omega arith)
+      (λ (z : length more ≡ frameSize more). omega arith)))
       (λ (l : length bs + 1 < headerOf more).
       grown ∙ measure-waits (stored more 0) (omega arith)
       ∙ pushed _ _ _ _ (sym (partial-in-header more (omega arith)))
@@ -97,7 +100,9 @@ module _ (bs : List ℕ) (b : ℕ) where
     completes =
         let n = more-length in
         let f = frame-agree more bs same in
-        eqb-iff (frameSize bs - length bs) 1 (length more) (frameSize more) (λ (z : frameSize bs - length bs ≡ 1). omega arith) (λ (z : length more ≡ frameSize more). omega arith)
+        eqb-iff (frameSize bs - length bs) 1 (length more) (frameSize more)
+        (λ (z : frameSize bs - length bs ≡ 1). omega arith)
+        (λ (z : length more ≡ frameSize more). omega arith)
 
     right-stored : storesBody bs ≡ true → length bs < 35 → Right bs b (pushOf (stored bs (frameSize bs - length bs)) b)
     right-stored k room =
@@ -106,7 +111,8 @@ module _ (bs : List ℕ) (b : ℕ) where
         let f = frame-agree more bs same in
         push-stored (stored bs (frameSize bs - length bs)) b (omega arith) (stores-agree (padded 35 bs) bs (pad-agree (headerOf bs) bs) ∙ k) room
         ∙ pushed _ _ _ _
-        (partial-eq _ (padded 35 more) (length bs + 1) (length more) (frameSize bs - length bs - 1) (frameSize more - length more) (set-padded 35 bs b room) (sym n) (omega arith)
+        (partial-eq _ (padded 35 more) (length bs + 1) (length more) (frameSize bs - length bs - 1) (frameSize more - length more)
+        (set-padded 35 bs b room) (sym n) (omega arith)
         ∙ sym (partial-known more more (omega arith) (kept-all more (stores-agree more bs same ∙ k))))
         completes
 
@@ -120,7 +126,8 @@ module _ (bs : List ℕ) (b : ℕ) where
         let hd = header-agree more bs same in
         let f = frame-agree more bs same in
         let e : frameSize bs - length bs - 1 ≡ frameSize more - length more = omega arith in
-        push-skipped (stored (take (headerOf bs) bs) (frameSize bs - length bs)) b (omega arith) (stores-agree (padded 35 (take (headerOf bs) bs)) bs header-same ∙ k)
+        push-skipped (stored (take (headerOf bs) bs) (frameSize bs - length bs)) b (omega arith)
+        (stores-agree (padded 35 (take (headerOf bs) bs)) bs header-same ∙ k)
         ∙ pushed _ _ _ _
         (ap (stored (take (headerOf bs) bs)) e
         ∙ sym
@@ -143,7 +150,7 @@ module _ (bs : List ℕ) (t : T (allBytes bs)) (some : 0 < length bs) (lacks : l
   right-after =
       ⊎-elim (λ (h : headerOf bs ≤ length bs). right-in-body h (storesBody bs) refl)
       (λ (h : length bs < headerOf bs).
-      let e : headerOf (bs ++ (b ∷ [])) ≡ headerOf bs = ap (λ (op : ℕ). headerSize (dataLength op)) (List·getD-append bs (b ∷ []) 0 0 some) in
+      let e : headerOf (snoc bs b) ≡ headerOf bs = ap (λ (op : ℕ). headerSize (dataLength op)) (List·getD-append bs (b ∷ []) 0 0 some) in
       ap (λ (p : Partial). pushOf p b) (partial-in-header bs h) ∙ right-in-header bs b (omega arith))
       (le-or-lt (headerOf bs) (length bs))
 
@@ -158,15 +165,15 @@ prefix-lacks bs ds some a =
     (le-or-lt (headerOf bs) (length bs))
 
 -- a byte that the frame is not complete with
-next-partial : (p : Partial) (bs : List ℕ) (b : ℕ) → Right bs b (pushOf p b) → length (bs ++ (b ∷ [])) < frameSize (bs ++ (b ∷ [])) → nextOf p b ≡ partialOf (bs ++ (b ∷ []))
-next-partial p bs b r l =
-    next-more p b _ r (ne-eqb (length (bs ++ (b ∷ []))) (frameSize (bs ++ (b ∷ []))) (λ (z : length (bs ++ (b ∷ [])) ≡ frameSize (bs ++ (b ∷ []))). omega arith))
+next-partial : (p : Partial) (bs : List ℕ) (b : ℕ) → Right bs b (pushOf p b) → length (snoc bs b) < frameSize (snoc bs b)
+    → nextOf p b ≡ partialOf (snoc bs b)
+next-partial p bs b r l = next-more p b _ r (ne-eqb _ _ (λ (z : length (snoc bs b) ≡ frameSize (snoc bs b)). omega arith))
 
 goes-on : (ds bs : List ℕ) → T (allBytes bs) → T (allBytes ds) → 0 < length bs → afterOf emptyPartial bs ≡ partialOf bs
     → length (bs ++ ds) < frameSize (bs ++ ds) → afterOf emptyPartial (bs ++ ds) ≡ partialOf (bs ++ ds)
 goes-on [] bs t u some e l = rw (append-nil bs) e
 goes-on (d ∷ ds) bs t u some e l =
-    let more = bs ++ (d ∷ []) in
+    let more = snoc bs d in
     let same : more ++ ds ≡ bs ++ (d ∷ ds) = append-assoc bs (d ∷ []) ds in
     let n = length-append bs (d ∷ []) in
     let m = length-append bs (d ∷ ds) in
@@ -175,7 +182,8 @@ goes-on (d ∷ ds) bs t u some e l =
     let lacks-more = prefix-lacks more ds (omega arith) (rw same (omega arith)) in
     subst (λ (l : List ℕ). afterOf emptyPartial l ≡ partialOf l) same
     (goes-on ds more (all-append isByte bs (d ∷ []) t (yes-and (isByte d) true (v .0) tt)) (v .1) (omega arith)
-    (after-append emptyPartial bs (d ∷ []) ∙ ap (λ (p : Partial). nextOf p d) e ∙ next-partial (partialOf bs) bs d (right-after bs t some lacks d) lacks-more)
+    (after-append emptyPartial bs (d ∷ []) ∙ ap (λ (p : Partial). nextOf p d) e
+    ∙ next-partial (partialOf bs) bs d (right-after bs t some lacks d) lacks-more)
     (rw same l))
 
 pub partial-as-sent : (bs : List ℕ) → T (allBytes bs) → 0 < length bs → length bs < frameSize bs → afterOf emptyPartial bs ≡ partialOf bs
@@ -186,7 +194,7 @@ partial-as-sent (b ∷ bs) t some l =
     (next-partial emptyPartial [] b (right-in-header [] b (header-pos (lengthOf (b ∷ [])))) (prefix-lacks (b ∷ []) bs (omega arith) (omega arith)))
     l
 
-last-byte : (bs : List ℕ) (b : ℕ) → T (allBytes bs) → length (bs ++ (b ∷ [])) ≡ frameSize (bs ++ (b ∷ [])) → Right bs b (pushOf (afterOf emptyPartial bs) b)
+last-byte : (bs : List ℕ) (b : ℕ) → T (allBytes bs) → length (snoc bs b) ≡ frameSize (snoc bs b) → Right bs b (pushOf (afterOf emptyPartial bs) b)
 last-byte [] b t e = right-in-header [] b (header-pos (lengthOf (b ∷ [])))
 last-byte (a ∷ bs) b t e =
     let n = length-append (a ∷ bs) (b ∷ []) in
@@ -194,6 +202,6 @@ last-byte (a ∷ bs) b t e =
     let lacks = prefix-lacks (a ∷ bs) (b ∷ []) some (omega arith) in
     ap (λ (p : Partial). pushOf p b) (partial-as-sent (a ∷ bs) t some lacks) ∙ right-after (a ∷ bs) t some lacks b
 
-pub complete-as-sent : (bs : List ℕ) (b : ℕ) → T (allBytes bs) → length (bs ++ (b ∷ [])) ≡ frameSize (bs ++ (b ∷ []))
-    → pushOf (afterOf emptyPartial bs) b ≡ record { partial = partialOf (bs ++ (b ∷ [])); complete = true }
-complete-as-sent bs b t e = last-byte bs b t e ∙ pushed _ _ _ _ refl (eq-eqb (length (bs ++ (b ∷ []))) (frameSize (bs ++ (b ∷ []))) e)
+pub complete-as-sent : (bs : List ℕ) (b : ℕ) → T (allBytes bs) → length (snoc bs b) ≡ frameSize (snoc bs b)
+    → pushOf (afterOf emptyPartial bs) b ≡ record { partial = partialOf (snoc bs b); complete = true }
+complete-as-sent bs b t e = last-byte bs b t e ∙ pushed _ _ _ _ refl (eq-eqb (length (snoc bs b)) (frameSize (snoc bs b)) e)

@@ -1,8 +1,8 @@
 -- The cut in numbers: worked cases, and what every count byte announces. They cite no table and no rule of storing.
 -- Assumes nothing.
-use Prim.Native.Nat.{ℕ, _*_}
 use mathlib.Core.Bool.{Bool, true, false, Bool·beq, _&&_}
 use mathlib.Core.List.{List, [], _∷_}
+use Prim.Native.Nat.{ℕ, _*_}
 use lib.Dec.{eqb}
 use Rattle.wire.specs.Lists.{all, sameList}
 use Rattle.frame.specs.Push.{pushOf, stored, emptyPartial, afterOf}

@@ -6,7 +6,7 @@ use mathlib.Core.List.{List, [], _∷_, _++_}
 use Prim.Native.Nat.{ℕ, _-_, _≤_, _<_}
 use lib.Dec.{T, leb, ltb}
 use lib.ListN.{length, getD, take, replicate}
-use Rattle.wire.specs.Lists.{all, allFrom, allBytes}
+use Rattle.wire.specs.Lists.{all, allFrom, snoc, allBytes}
 use Rattle.frame.specs.FrameTable.{dataLength, dataBytes}
 use Rattle.frame.specs.Push.{headerOf, frameSize, storesBody, pushOf, stored, emptyPartial, nextOf, afterOf, beginsFrame, opcodes}
 use Rattle.frame.specs.Reach.{isArray, reachableOf}
@@ -59,8 +59,8 @@ pub record StoredAsSent : Type 0 where
   -- between two bytes
   pub partial-as-sent : (bs : List ℕ) → T (allBytes bs) → 0 < length bs → length bs < frameSize bs → afterOf emptyPartial bs ≡ partialOf bs
   -- at the last byte, b; bs is empty for a frame of one byte
-  pub complete-as-sent : (bs : List ℕ) (b : ℕ) → T (allBytes bs) → length (bs ++ (b ∷ [])) ≡ frameSize (bs ++ (b ∷ []))
-      → pushOf (afterOf emptyPartial bs) b ≡ record { partial = partialOf (bs ++ (b ∷ [])); complete = true }
+  pub complete-as-sent : (bs : List ℕ) (b : ℕ) → T (allBytes bs) → length (snoc bs b) ≡ frameSize (snoc bs b)
+      → pushOf (afterOf emptyPartial bs) b ≡ record { partial = partialOf (snoc bs b); complete = true }
 
 -- some list of bytes leaves this partial frame, from nothing
 pub record LeftBySome (p : Partial) : Type 0 where

@@ -13,7 +13,7 @@ use lib.ListN.{length, getD, set, take, drop, replicate, length-append, length-d
 use lib.Seq.{drop-cons, set-append-seam}
 use mir.Facts.{and-yes, yes-and, yes-ltb}
 use borrow.Author.Tests.{lt-ltb}
-use Rattle.wire.specs.Lists.{all, allFrom, padded, isZero, isByte, allZero, allBytes, byteArray}
+use Rattle.wire.specs.Lists.{all, allFrom, snoc, padded, isZero, isByte, allZero, allBytes, byteArray}
 
 -- ---- lists from an index on
 
@@ -30,9 +30,9 @@ getD-zeros (x ∷ xs) k zero = refl
 getD-zeros (x ∷ xs) k (suc i) = getD-zeros xs k i
 
 -- a store at the first place that is not in use
-pub set-padded : (n : ℕ) (l : List ℕ) (b : ℕ) → length l < n → set (padded n l) (length l) b ≡ padded n (l ++ (b ∷ []))
+pub set-padded : (n : ℕ) (l : List ℕ) (b : ℕ) → length l < n → set (padded n l) (length l) b ≡ padded n (snoc l b)
 set-padded n l b h =
-    let k = n - length (l ++ (b ∷ [])) in
+    let k = n - length (snoc l b) in
     let e : n - length l ≡ suc k = omega (arith, length-append l (b ∷ [])) in
     rw e (set-append-seam l 0 (replicate k 0) b ∙ sym (append-assoc l (b ∷ []) (replicate k 0)))
 

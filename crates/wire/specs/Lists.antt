@@ -34,6 +34,10 @@ among (x ∷ xs) k = eqb k x || among xs k
 abbrev pub within : ℕ → ℕ → ℕ → Bool
 within lo hi k = leb lo k && leb k hi
 
+-- one element more, at the end
+abbrev pub snoc : List ℕ → ℕ → List ℕ
+snoc l b = l ++ (b ∷ [])
+
 -- a list in the first of n places, and 0 in the others
 abbrev pub padded : ℕ → List ℕ → List ℕ
 padded n l = l ++ replicate (n - length l) 0
