@@ -33,6 +33,7 @@ abbrev pub look : List Row → ℕ → Length
 look [] op = Unknown
 look (r ∷ rs) op = cond (among (r .opcodes) op) (r .length) (look rs op)
 
+-- an opcode's data length, by document 01's table
 unfoldable pub dataLength : ℕ → Length
 dataLength op = look frameTable op
 

@@ -19,6 +19,7 @@ use Rattle.frame.specs.declared.Pushed.{Pushed}
 abbrev pub frameSizeAs : Length → List ℕ → ℕ
 frameSizeAs l bytes = 1 + dataBytes l bytes
 
+-- and the body's: what comes after the header
 unfoldable pub bodySizeAs : Length → List ℕ → ℕ
 bodySizeAs l bytes = frameSizeAs l bytes - headerSize l
 
@@ -26,6 +27,7 @@ bodySizeAs l bytes = frameSizeAs l bytes - headerSize l
 abbrev pub legalCount : ℕ → Bool
 legalCount n = leb n 16
 
+-- a 152: a script, which the board does not offer
 abbrev pub isScript : List ℕ → Bool
 isScript bytes = eqb (getD bytes 0 0) 152
 
@@ -36,6 +38,7 @@ storesBodyAs Counted bytes = not (isScript bytes) && legalCount (getD bytes 1 0)
 storesBodyAs Song bytes = legalCount (getD bytes 2 0)
 storesBodyAs Unknown bytes = true
 
+-- the same, of the frame that these bytes begin
 abbrev pub lengthOf : List ℕ → Length
 lengthOf bytes = dataLength (getD bytes 0 0)
 
