@@ -1,4 +1,4 @@
--- What is stored is what was sent: `partialOf` of a frame's first bytes is kept up by each byte more.
+-- What is kept of a frame is stored as it was sent: `partialOf` of a frame's first bytes is kept up by each byte more.
 -- Assumes nothing.
 use mathlib.Core.Path.{_≡_, refl, sym, subst, ap, ap₂, _∙_}
 use mathlib.Core.Bool.{Bool, true, false}

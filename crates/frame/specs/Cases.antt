@@ -1,4 +1,4 @@
--- The cut in numbers: worked cases, and what every count byte announces. They cite no table and no rule of storing.
+-- The cut in numbers: worked cases, and what every count byte announces. What they expect is written out, and cites no table and no rule.
 -- Assumes nothing.
 use mathlib.Core.Bool.{Bool, true, false, Bool·beq, _&&_}
 use mathlib.Core.List.{List, [], _∷_}
@@ -20,8 +20,8 @@ pub record FrameCase : Type 0 where
 abbrev ends : List ℕ → ℕ → List ℕ → FrameCase
 ends bs b kept = record { before = bs; last = b; kept = kept; remaining = 0; complete = true }
 
-abbrev waits : List ℕ → ℕ → List ℕ → ℕ → FrameCase
-waits bs b kept n = record { before = bs; last = b; kept = kept; remaining = n; complete = false }
+abbrev goesOn : List ℕ → ℕ → List ℕ → ℕ → FrameCase
+goesOn bs b kept n = record { before = bs; last = b; kept = kept; remaining = n; complete = false }
 
 abbrev pub frameCases : List FrameCase
 frameCases =
@@ -30,25 +30,25 @@ frameCases =
     ∷ ends [] 146 (146 ∷ [])
     ∷ ends [] 255 (255 ∷ [])
     -- W3: a Drive is kept whole
-    ∷ waits (137 ∷ []) 255 (137 ∷ 255 ∷ []) 3
+    ∷ goesOn (137 ∷ []) 255 (137 ∷ 255 ∷ []) 3
     ∷ ends (137 ∷ 255 ∷ 56 ∷ 1 ∷ []) 244 (137 ∷ 255 ∷ 56 ∷ 1 ∷ 244 ∷ [])
     -- W8, W9: 140 0 0 ends at its third byte; 140 0 255 has 510 remaining
-    ∷ waits [] 140 (140 ∷ []) 0
-    ∷ waits (140 ∷ []) 0 (140 ∷ 0 ∷ []) 0
+    ∷ goesOn [] 140 (140 ∷ []) 0
+    ∷ goesOn (140 ∷ []) 0 (140 ∷ 0 ∷ []) 0
     ∷ ends (140 ∷ 0 ∷ []) 0 (140 ∷ 0 ∷ 0 ∷ [])
-    ∷ waits (140 ∷ 0 ∷ []) 255 (140 ∷ 0 ∷ 255 ∷ []) 510
+    ∷ goesOn (140 ∷ 0 ∷ []) 255 (140 ∷ 0 ∷ 255 ∷ []) 510
     -- W10: a count of 0 ends the frame
-    ∷ waits [] 149 (149 ∷ []) 0
+    ∷ goesOn [] 149 (149 ∷ []) 0
     ∷ ends (149 ∷ []) 0 (149 ∷ 0 ∷ [])
     -- illegal data under a legal count are kept; past the count nothing is
-    ∷ waits (140 ∷ 16 ∷ 16 ∷ []) 60 (140 ∷ 16 ∷ 16 ∷ 60 ∷ []) 31
-    ∷ waits (140 ∷ 0 ∷ 17 ∷ []) 60 (140 ∷ 0 ∷ 17 ∷ []) 33
-    ∷ waits (148 ∷ 16 ∷ []) 99 (148 ∷ 16 ∷ 99 ∷ []) 15
-    ∷ waits (148 ∷ 17 ∷ []) 7 (148 ∷ 17 ∷ []) 16
-    ∷ waits (149 ∷ 16 ∷ []) 99 (149 ∷ 16 ∷ 99 ∷ []) 15
-    ∷ waits (149 ∷ 17 ∷ []) 7 (149 ∷ 17 ∷ []) 16
+    ∷ goesOn (140 ∷ 16 ∷ 16 ∷ []) 60 (140 ∷ 16 ∷ 16 ∷ 60 ∷ []) 31
+    ∷ goesOn (140 ∷ 0 ∷ 17 ∷ []) 60 (140 ∷ 0 ∷ 17 ∷ []) 33
+    ∷ goesOn (148 ∷ 16 ∷ []) 99 (148 ∷ 16 ∷ 99 ∷ []) 15
+    ∷ goesOn (148 ∷ 17 ∷ []) 7 (148 ∷ 17 ∷ []) 16
+    ∷ goesOn (149 ∷ 16 ∷ []) 99 (149 ∷ 16 ∷ 99 ∷ []) 15
+    ∷ goesOn (149 ∷ 17 ∷ []) 7 (149 ∷ 17 ∷ []) 16
     -- a 152 keeps its count alone, whatever that is
-    ∷ waits (152 ∷ 2 ∷ []) 128 (152 ∷ 2 ∷ []) 1
+    ∷ goesOn (152 ∷ 2 ∷ []) 128 (152 ∷ 2 ∷ []) 1
     ∷ ends (152 ∷ 1 ∷ []) 128 (152 ∷ 1 ∷ [])
     ∷ []
 
@@ -60,7 +60,7 @@ caseRight c =
     let r = pushOf (afterOf emptyPartial (c .before)) (c .last) in
     samePartial (r .partial) (stored (c .kept) (c .remaining)) && Bool·beq (r .complete) (c .complete)
 
--- after 148, 149 or 152 and a count n, n bytes remain; after 140, a number and n, twice as many
+-- after 148, 149 or 152 and a count n, n bytes remain; after 140 0 n, twice as many
 abbrev pub countRight : ℕ → Bool
 countRight n =
     all (λ op. eqb (afterOf emptyPartial (op ∷ n ∷ []) .remaining) n) (148 ∷ 149 ∷ 152 ∷ [])

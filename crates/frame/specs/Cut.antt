@@ -54,7 +54,7 @@ remainingOf bs = cond (ltb (length bs) (headerOf bs)) 0 (frameSize bs - length b
 abbrev pub partialOf : List ℕ → Partial
 partialOf bs = stored (keptOf bs) (remainingOf bs)
 
--- THEOREM: what is stored is what was sent
+-- THEOREM: what is kept of a frame is stored as it was sent
 pub record StoredAsSent : Type 0 where
   -- between two bytes
   pub partial-as-sent : (bs : List ℕ) → T (allBytes bs) → 0 < length bs → length bs < frameSize bs → afterOf emptyPartial bs ≡ partialOf bs

@@ -38,7 +38,7 @@ storesBodyAs Counted bytes = not (isScript bytes) && legalCount (getD bytes 1 0)
 storesBodyAs Song bytes = legalCount (getD bytes 2 0)
 storesBodyAs Unknown bytes = true
 
--- the same, of the frame that these bytes begin
+-- the frame that the bytes begin: its length, its header, its size, its body, and whether that is stored
 abbrev pub lengthOf : List ℕ → Length
 lengthOf bytes = dataLength (getD bytes 0 0)
 

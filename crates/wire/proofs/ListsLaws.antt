@@ -1,4 +1,4 @@
--- Laws of the tests over lists.
+-- Laws of lists, and of the tests over them.
 -- Assumes nothing.
 use mathlib.Core.Path.{_≡_, refl, sym, ap, subst, _∙_}
 use mathlib.Core.Bool.{Bool, true, _&&_}
@@ -19,22 +19,6 @@ use Rattle.wire.specs.Lists.{all, allFrom, snoc, padded, isZero, isByte,
 
 pub drop-next : (l : List ℕ) (i : ℕ) → i < length l → drop i l ≡ getD l i 0 ∷ drop (i + 1) l
 drop-next l i h = rw add-one (drop-cons l i 0 h)
-
--- ---- a list with zeros after it
-
-pub getD-zeros : (l : List ℕ) (k i : ℕ) → getD (l ++ replicate k 0) i 0 ≡ getD l i 0
-getD-zeros [] zero i = refl
-getD-zeros [] (suc k) zero = refl
-getD-zeros [] (suc k) (suc i) = getD-zeros [] k i
-getD-zeros (x ∷ xs) k zero = refl
-getD-zeros (x ∷ xs) k (suc i) = getD-zeros xs k i
-
--- a store at the first place that is not in use
-pub set-padded : (n : ℕ) (l : List ℕ) (b : ℕ) → length l < n → set (padded n l) (length l) b ≡ padded n (snoc l b)
-set-padded n l b h =
-    let k = n - length (snoc l b) in
-    let e : n - length l ≡ suc k = omega (arith, length-append l (b ∷ [])) in
-    rw e (set-append-seam l 0 (replicate k 0) b ∙ sym (append-assoc l (b ∷ []) (replicate k 0)))
 
 -- ---- all
 
@@ -93,6 +77,22 @@ pub table-le : (m : ℕ) (xs : List ℕ) → T (all (λ x. leb x m) xs) → (k :
 table-le m [] t k = zero-le
 table-le m (x ∷ xs) t zero = leb→le x m (and-yes (leb x m) (all (λ x. leb x m) xs) t .0)
 table-le m (x ∷ xs) t (suc k) = table-le m xs (and-yes (leb x m) (all (λ x. leb x m) xs) t .1) k
+
+-- ---- padded
+
+pub getD-zeros : (l : List ℕ) (k i : ℕ) → getD (l ++ replicate k 0) i 0 ≡ getD l i 0
+getD-zeros [] zero i = refl
+getD-zeros [] (suc k) zero = refl
+getD-zeros [] (suc k) (suc i) = getD-zeros [] k i
+getD-zeros (x ∷ xs) k zero = refl
+getD-zeros (x ∷ xs) k (suc i) = getD-zeros xs k i
+
+-- a store at the first place that is not in use
+pub set-padded : (n : ℕ) (l : List ℕ) (b : ℕ) → length l < n → set (padded n l) (length l) b ≡ padded n (snoc l b)
+set-padded n l b h =
+    let k = n - length (snoc l b) in
+    let e : n - length l ≡ suc k = omega (arith, length-append l (b ∷ [])) in
+    rw e (set-append-seam l 0 (replicate k 0) b ∙ sym (append-assoc l (b ∷ []) (replicate k 0)))
 
 -- ---- bytes and zeros
 
