@@ -74,11 +74,26 @@ put-length {a} {d} {d′} {i} x h = ap length (x .bytes) ∙ length-placed a i d
 pub put-start : {a d d′ : List ℕ} {r : ℕ} → Put a 0 d d′ r → d′ ≡ overwrite a d
 put-start {a} {d} x = x .bytes ∙ placed-start a d
 
--- a turn of a loop that writes: of what is left, a ++ b, the turn writes a; `Done` says what the whole is once what is left is written
-pub put-turn : {a b d d′ : List ℕ} {i j : ℕ} (Done : List ℕ → ℕ → Type 0) → Put a i d d′ j → i + length (a ++ b) ≤ length d
-    → ((e : List ℕ) (r : ℕ) → Put (a ++ b) i d e r → Done e r)
-    → (length d′ ≡ length d) × ((j + length b ≤ length d′) × ((e : List ℕ) (r : ℕ) → Put b j d′ e r → Done e r))
-put-turn {a} {b} {d} {d′} {i} {j} Done x h k =
-    let room = put-room a b i (length d) h in
-    let l : length d′ ≡ length d = put-length x room in
-    (l, (omega (arith, x .next, length-append a b), λ e r y. k e r (put-then x y room)))
+-- ---- Left: the invariant of a loop that writes
+
+-- the bytes `left`, once they are put at `out`, make the whole that is put at `at` into the buffer that was `before`
+pub record Left (whole : List ℕ) (at : ℕ) (before left buffer : List ℕ) (out : ℕ) : Type 0 where
+  pub same : length buffer ≡ length before
+  pub room : out + length left ≤ length buffer
+  pub rest : (d : List ℕ) (r : ℕ) → Put left out buffer d r → Put whole at before d r
+
+pub left-start : {whole before : List ℕ} {at : ℕ} → at + length whole ≤ length before → Left whole at before whole before at
+left-start h = record { same = refl; room = h; rest = λ d r x. x }
+
+pub left-room : {whole before buffer : List ℕ} {at out : ℕ} (a b : List ℕ) → Left whole at before (a ++ b) buffer out → out + length a ≤ length buffer
+left-room {buffer = buffer} {out = out} a b l = put-room a b out (length buffer) (l .room)
+
+-- a turn puts the first part of what is left
+pub left-turn : {whole before a b buffer d : List ℕ} {at out r : ℕ} → Left whole at before (a ++ b) buffer out → Put a out buffer d r → Left whole at before b d r
+left-turn {a = a} {b = b} l x =
+    let h = left-room a b l in
+    let e = put-length x h in
+    record { same = e ∙ l .same; room = omega (arith, l .room, x .next, length-append a b); rest = λ d r y. l .rest d r (put-then x y h) }
+
+pub left-end : {whole before buffer : List ℕ} {at out : ℕ} → Left whole at before [] buffer out → Put whole at before buffer out
+left-end {buffer = buffer} {out = out} l = l .rest buffer out (put-none out buffer)

@@ -3,3 +3,4 @@ pub mod ListsLaws
 pub mod MatchLaws
 pub mod SixteenLaws
 pub mod BufferLaws
+pub mod RepliesLaws

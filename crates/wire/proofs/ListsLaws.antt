@@ -2,10 +2,10 @@
 -- Assumes nothing.
 use mathlib.Core.Path.{_≡_, refl, sym, ap, subst, _∙_}
 use mathlib.Core.Bool.{Bool, true, _&&_}
-use mathlib.Core.List.{List, [], _∷_, _++_, append-assoc}
+use mathlib.Core.List.{List, [], _∷_, _++_, append-assoc, map, flatMap}
 use mathlib.Core.Logic.{⊎-elim}
 use Prim.Native.Nat.{ℕ, zero, suc, _+_, _-_, _≤_, _<_, zero-le}
-use native.Mathlib.Nat.{eq-or-lt-of-le}
+use native.Mathlib.Nat.{eq-or-lt-of-le, zero-add}
 use native.Mathlib.Numerals.{add-one}
 use native.Mathlib.Omega.{arith}
 use lib.Dec.{T, eqb, eqb→eq, ltb→lt, leb, leb→le}
@@ -13,12 +13,43 @@ use lib.ListN.{length, getD, set, take, drop, replicate, length-append, length-d
 use lib.Seq.{drop-cons, set-append-seam}
 use mir.Facts.{and-yes, yes-and, yes-ltb}
 use borrow.Author.Tests.{lt-ltb}
-use Rattle.wire.specs.Lists.{all, allFrom, snoc, padded, isZero, isByte, allZero, allBytes, byteArray}
+use Rattle.wire.specs.Lists.{all, allFrom, span, sum, snoc, padded, isZero, isByte, allZero, allBytes, byteArray}
 
 -- ---- lists from an index on
 
 pub drop-next : (l : List ℕ) (i : ℕ) → i < length l → drop i l ≡ getD l i 0 ∷ drop (i + 1) l
 drop-next l i h = rw add-one (drop-cons l i 0 h)
+
+-- ---- span: the numbers from p on, below an end
+
+pub span-next : (p end : ℕ) → p < end → span p (end - p) ≡ p ∷ span (p + 1) (end - (p + 1))
+span-next p end h = let e : end - p ≡ suc (end - (p + 1)) = omega arith in rw (e, add-one p) refl
+
+pub span-end : (p end : ℕ) → end ≤ p → span p (end - p) ≡ []
+span-end p end h = let e : end - p ≡ 0 = omega arith in rw e refl
+
+pub span-snoc : (a n : ℕ) → span a (suc n) ≡ snoc (span a n) (a + n)
+span-snoc a zero = let e : a ≡ a + 0 = omega arith in ap (λ (k : ℕ). k ∷ []) e
+span-snoc a (suc n) = let e : suc a + n ≡ a + suc n = omega arith in ap (λ (l : List ℕ). a ∷ l) (span-snoc (suc a) n ∙ ap (snoc (span (suc a) n)) e)
+
+-- ---- sum
+
+pub sum-append : (a b : List ℕ) → sum (a ++ b) ≡ sum a + sum b
+sum-append [] b = sym (zero-add (sum b))
+sum-append (x ∷ a) b = omega (arith, sum-append a b)
+
+-- ---- flatMap
+
+module _ (f : ℕ → List ℕ) where
+  -- one turn of a loop over the elements from i on
+  pub flatMap-next : (l : List ℕ) (i : ℕ) → i < length l → flatMap f (drop i l) ≡ f (getD l i 0) ++ flatMap f (drop (i + 1) l)
+  unfolding flatMap
+  flatMap-next l i h = ap (flatMap f) (drop-next l i h)
+
+  pub length-flatMap : (g : ℕ → ℕ) → ((x : ℕ) → length (f x) ≡ g x) → (l : List ℕ) → length (flatMap f l) ≡ sum (map g l)
+  unfolding flatMap
+  length-flatMap g h [] = refl
+  length-flatMap g h (x ∷ xs) = length-append (f x) (flatMap f xs) ∙ omega (arith, h x, length-flatMap g h xs)
 
 -- ---- all
 
@@ -69,8 +100,9 @@ from f lo (suc n) t k a b =
     (eq-or-lt-of-le a)
 
 -- a table whose entries are a function's values
-pub table : (f : ℕ → ℕ) (xs : List ℕ) → T (allFrom (λ k. eqb (getD xs k 0) (f k)) 0 (length xs)) → (k : ℕ) → k < length xs → getD xs k 0 ≡ f k
-table f xs t k h = eqb→eq (getD xs k 0) (f k) (from (λ k. eqb (getD xs k 0) (f k)) 0 (length xs) t k zero-le (omega arith))
+pub table : {A : Type 0} (same : A → A → Bool) → ((x y : A) → T (same x y) → x ≡ y) → (f : ℕ → A) (d : A) (xs : List A)
+    → T (allFrom (λ k. same (getD xs k d) (f k)) 0 (length xs)) → (k : ℕ) → k < length xs → getD xs k d ≡ f k
+table same sound f d xs t k h = sound (getD xs k d) (f k) (from (λ k. same (getD xs k d) (f k)) 0 (length xs) t k zero-le (omega arith))
 
 -- a table whose entries are at most m
 pub table-le : (m : ℕ) (xs : List ℕ) → T (all (λ x. leb x m) xs) → (k : ℕ) → getD xs k 0 ≤ m

@@ -2,14 +2,14 @@
 -- The compiler tests for the single numbers of the arms (their keys) first, and then for ranges, from which all keys are gone.
 -- Assumes nothing.
 use mathlib.Core.Path.{_≡_}
-use mathlib.Core.Bool.{Bool, false, not, _&&_, _||_}
+use mathlib.Core.Bool.{Bool, true, false, not, _&&_, _||_}
 use mathlib.Core.List.{List, [], _∷_}
 use mathlib.Core.Logic.{⊎-elim}
 use Prim.Native.Nat.{ℕ, _≤_, _<_, zero-le}
 use native.Mathlib.Omega.{arith}
-use lib.Dec.{T, leb}
+use lib.Dec.{T, leb, ltb, ltb→lt}
 use lib.ListN.{length, getD}
-use mir.Facts.{or-yes, T-not-not, not-T, yes-and, yes-leb}
+use mir.Facts.{and-yes, or-yes, T-not-not, not-T, yes-and, yes-leb}
 use mir.Val.{hasKey}
 use types.Run.{OneOf, hit, miss}
 use Rattle.wire.specs.Lists.{all, allFrom, within}
@@ -58,6 +58,15 @@ taken-takes kss (range first last) n h =
     yes-and (within first last n) (not (keyed kss n))
     (yes-and (leb first n) (leb n last) (yes-leb (h .0)) (yes-leb (h .1 .0)))
     (not-T (keyed kss n) (not-keyed kss n (h .1 .1)))
+
+-- a key is below what all keys are below
+pub key-below : (ks : List ℕ) (m n : ℕ) → T (all (λ k. ltb k m) ks) → OneOf ks n → n < m
+key-below [] m n t h = absurd h
+key-below (k ∷ []) m n t h = let l = ltb→lt k m (and-yes (ltb k m) true t .0) in omega arith
+key-below (k ∷ k′ ∷ ks) m n t h =
+    let s = and-yes (ltb k m) (all (λ k. ltb k m) (k′ ∷ ks)) t in
+    let l = ltb→lt k m (s .0) in
+    ⊎-elim (λ (e : n ≡ k). omega arith) (λ r. key-below (k′ ∷ ks) m n (s .1) r) h
 
 -- ---- the one test, and the law
 

@@ -1,3 +1,4 @@
 pub mod Lists
 pub mod Sixteen
 pub mod Buffer
+pub mod Replies

@@ -2,7 +2,7 @@
 -- Assumes nothing.
 use mathlib.Core.Bool.{Bool, true, false, _&&_, _||_}
 use mathlib.Core.List.{List, [], _∷_, _++_}
-use Prim.Native.Nat.{ℕ, zero, suc, _-_}
+use Prim.Native.Nat.{ℕ, zero, suc, _+_, _-_}
 use lib.Dec.{leb, ltb, eqb}
 use lib.ListN.{length, replicate}
 
@@ -24,6 +24,11 @@ span a (suc n) = a ∷ span (suc a) n
 -- the numbers from a first to a last one
 abbrev pub fromTo : ℕ → ℕ → List ℕ
 fromTo first last = span first (suc last - first)
+
+-- the numbers of a list, added up
+abbrev pub sum : List ℕ → ℕ
+sum [] = 0
+sum (x ∷ xs) = x + sum xs
 
 -- k is one of the list's numbers
 abbrev pub among : List ℕ → ℕ → Bool

@@ -1,0 +1,3 @@
+pub mod SizeTableLaws
+pub mod PacketsLaws
+pub mod AnswersLaws

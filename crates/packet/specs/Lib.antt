@@ -1,0 +1,3 @@
+pub mod SizeTable
+pub mod Packets
+pub mod Answers
