@@ -1,3 +1,4 @@
 pub mod SizeTableLaws
 pub mod PacketsLaws
 pub mod AnswersLaws
+pub mod SensorsProved
