@@ -1,9 +1,9 @@
 -- What a call that answers with bytes gives back: a refusal with its number, or the bytes (document 01, 'Numbers given back').
 -- Assumes nothing.
 use mathlib.Core.Path.{_≡_}
-use mathlib.Core.Bool.{Bool, cond}
+use mathlib.Core.Bool.{Bool, true, false, cond}
 use mathlib.Core.List.{List}
-use Prim.Native.Nat.{ℕ}
+use Prim.Native.Nat.{ℕ, _≤_, _<_}
 use lib.Dec.{leb}
 use lib.ListN.{length}
 use Rattle.wire.specs.Buffer.{overwrite}
@@ -27,7 +27,18 @@ abbrev pub leftIn : Reply → List ℕ → List ℕ
 leftIn (refused n) buffer = buffer
 leftIn (wrote bytes) buffer = overwrite bytes buffer
 
--- the one contract of a call that answers with bytes: its result, and the buffer `after` that was `before`
-pub record Replied (reply : Reply) (before after : List ℕ) (result : Sent) : Type 0 where
-  pub sent : result ≡ sentOf reply
-  pub buffer : after ≡ leftIn reply before
+-- the one contract of a call that answers with bytes: its result, and the buffer `after` that was `before`; the reply is by the room there
+pub record Replied (reply : ℕ → Reply) (before after : List ℕ) (result : Sent) : Type 0 where
+  pub sent : result ≡ sentOf (reply (length before))
+  pub buffer : after ≡ leftIn (reply (length before)) before
+
+-- THEOREM: what the contract tells of a call that writes these bytes where its data are legal
+pub record ReplyTells (legal : Bool) (bytes before after : List ℕ) (result : Sent) : Type 0 where
+  -- each number exactly in its case
+  pub number-4 : legal ≡ false → result .number ≡ 4
+  pub number-7 : legal ≡ true → length before < length bytes → result .number ≡ 7
+  pub number-0 : legal ≡ true → length bytes ≤ length before → result .number ≡ 0
+  -- 0: the length is that of the bytes, which stand at the buffer's start, and all else is untouched
+  pub done : result .number ≡ 0 → (result .length ≡ length bytes) × (after ≡ overwrite bytes before)
+  -- any other number: length 0, and the buffer as it was
+  pub nothing-written : (result .number ≡ 0 → ⊥) → (result .length ≡ 0) × (after ≡ before)
