@@ -8,7 +8,7 @@ use Prim.Native.Nat.{ℕ, zero, suc, _+_, _-_, _≤_, _<_, zero-le}
 use native.Mathlib.Nat.{eq-or-lt-of-le, zero-add}
 use native.Mathlib.Numerals.{add-one}
 use native.Mathlib.Omega.{arith}
-use lib.Dec.{T, eqb, eqb→eq, ltb→lt, leb, leb→le}
+use lib.Dec.{T, eqb, eqb→eq, ltb→lt}
 use lib.ListN.{length, getD, set, take, drop, replicate, length-append, length-drop, length-set, take-append-drop}
 use lib.Seq.{drop-cons, set-append-seam}
 use mir.Facts.{and-yes, yes-and, yes-ltb}
@@ -103,12 +103,6 @@ from f lo (suc n) t k a b =
 pub table : {A : Type 0} (same : A → A → Bool) → ((x y : A) → T (same x y) → x ≡ y) → (f : ℕ → A) (d : A) (xs : List A)
     → T (allFrom (λ k. same (getD xs k d) (f k)) 0 (length xs)) → (k : ℕ) → k < length xs → getD xs k d ≡ f k
 table same sound f d xs t k h = sound (getD xs k d) (f k) (from (λ k. same (getD xs k d) (f k)) 0 (length xs) t k zero-le (omega arith))
-
--- a table whose entries are at most m
-pub table-le : (m : ℕ) (xs : List ℕ) → T (all (λ x. leb x m) xs) → (k : ℕ) → getD xs k 0 ≤ m
-table-le m [] t k = zero-le
-table-le m (x ∷ xs) t zero = leb→le x m (and-yes (leb x m) (all (λ x. leb x m) xs) t .0)
-table-le m (x ∷ xs) t (suc k) = table-le m xs (and-yes (leb x m) (all (λ x. leb x m) xs) t .1) k
 
 -- ---- padded
 
