@@ -89,7 +89,8 @@ pub left-room : {whole before buffer : List ℕ} {at out : ℕ} (a b : List ℕ)
 left-room {buffer = buffer} {out = out} a b l = put-room a b out (length buffer) (l .room)
 
 -- a turn puts the first part of what is left
-pub left-turn : {whole before a b buffer d : List ℕ} {at out r : ℕ} → Left whole at before (a ++ b) buffer out → Put a out buffer d r → Left whole at before b d r
+pub left-turn : {whole before a b buffer d : List ℕ} {at out r : ℕ} → Left whole at before (a ++ b) buffer out
+    → Put a out buffer d r → Left whole at before b d r
 left-turn {a = a} {b = b} l x =
     let h = left-room a b l in
     let e = put-length x h in

@@ -32,7 +32,8 @@ module _ {legal : Bool} (bytes : List ℕ) (room : ℕ) where
 
 -- ---- Replied: what each return asks
 
-replied : {f : ℕ → Reply} {d d′ : List ℕ} {sent : Sent} (reply : Reply) → f (length d) ≡ reply → sent ≡ sentOf reply → d′ ≡ leftIn reply d → Replied f d d′ sent
+replied : {f : ℕ → Reply} {d d′ : List ℕ} {sent : Sent} (reply : Reply) → f (length d) ≡ reply
+    → sent ≡ sentOf reply → d′ ≡ leftIn reply d → Replied f d d′ sent
 replied {d = d} reply e a b = record { sent = a ∙ ap sentOf (sym e); buffer = b ∙ ap (λ (r : Reply). leftIn r d) (sym e) }
 
 module _ {legal : Bool} (bytes d : List ℕ) where
@@ -51,7 +52,8 @@ module _ {legal : Bool} (bytes d : List ℕ) where
 
 -- ---- what the contract tells
 
-by-tests : (P : Type 0) (legal : Bool) (bytes d : List ℕ) → (legal ≡ false → P) → (legal ≡ true → length d < length bytes → P) → (legal ≡ true → length bytes ≤ length d → P) → P
+by-tests : (P : Type 0) (legal : Bool) (bytes d : List ℕ) → (legal ≡ false → P)
+    → (legal ≡ true → length d < length bytes → P) → (legal ≡ true → length bytes ≤ length d → P) → P
 by-tests P true bytes d a b c = ⊎-elim (c refl) (b refl) (le-or-lt (length bytes) (length d))
 by-tests P false bytes d a b c = a refl
 
