@@ -7,10 +7,11 @@ use mathlib.Core.Logic.{⊎-elim}
 use Prim.Native.Nat.{ℕ, _≤_, _<_}
 use native.Mathlib.Nat.{zero-add}
 use native.Mathlib.Omega.{arith}
-use lib.ListN.{length}
+use lib.ListN.{length, take, drop}
+use lib.Seq.{take-append-seam, drop-append-seam}
 use borrow.Author.Tests.{le-leb, lt-leb}
 use Rattle.wire.specs.Buffer.{overwrite, Put}
-use Rattle.wire.specs.Replies.{Reply, refused, wrote, replyOf, sentOf, leftIn, Replied, ReplyTells}
+use Rattle.wire.specs.Replies.{Reply, refused, wrote, replyOf, sentOf, leftIn, Replied, RepliesTell}
 use Rattle.wire.specs.declared.Sent.{Sent}
 use Rattle.wire.proofs.BoolLaws.{le-or-lt}
 use Rattle.wire.proofs.BufferLaws.{put-start}
@@ -58,40 +59,45 @@ by-tests P true bytes d a b c = ⊎-elim (c refl) (b refl) (le-or-lt (length byt
 by-tests P false bytes d a b c = a refl
 
 module _ (legal : Bool) (bytes d d′ : List ℕ) (result : Sent) (x : Replied (replyOf legal bytes) d d′ result) where
-  sent : {reply : Reply} → replyOf legal bytes (length d) ≡ reply → result ≡ sentOf reply
-  sent e = x .sent ∙ ap sentOf e
+  -- what the contract says of a reply
+  abbrev Says : Reply → Type 0
+  Says reply = (result ≡ sentOf reply) × (d′ ≡ leftIn reply d)
 
-  buffer : {reply : Reply} → replyOf legal bytes (length d) ≡ reply → d′ ≡ leftIn reply d
-  buffer e = x .buffer ∙ ap (λ (r : Reply). leftIn r d) e
+  says : {reply : Reply} → replyOf legal bytes (length d) ≡ reply → Says reply
+  says e = (x .sent ∙ ap sentOf e, x .buffer ∙ ap (λ (r : Reply). leftIn r d) e)
 
-  number-4 : legal ≡ false → result .number ≡ 4
-  number-4 e = ap (λ (r : Sent). r .number) (sent (reply-4 bytes (length d) e))
+  number : {reply : Reply} → replyOf legal bytes (length d) ≡ reply → result .number ≡ sentOf reply .number
+  number e = ap (λ (r : Sent). r .number) (says e .0)
 
-  number-7 : legal ≡ true → length d < length bytes → result .number ≡ 7
-  number-7 e h = ap (λ (r : Sent). r .number) (sent (reply-7 bytes (length d) e h))
+  -- 0 is said of the bytes alone
+  done : result .number ≡ 0 → Says (wrote bytes)
+  done n =
+      by-tests (Says (wrote bytes)) legal bytes d
+      (λ e. absurd (let m = number (reply-4 bytes (length d) e) in omega arith))
+      (λ e h. absurd (let m = number (reply-7 bytes (length d) e h) in omega arith))
+      (λ e h. says (reply-0 bytes (length d) e h))
 
-  number-0 : legal ≡ true → length bytes ≤ length d → result .number ≡ 0
-  number-0 e h = ap (λ (r : Sent). r .number) (sent (reply-0 bytes (length d) e h))
+  -- and any other number of a refusal
+  refusal : (result .number ≡ 0 → ⊥) → (result .length ≡ 0) × (d′ ≡ d)
+  refusal n =
+      by-tests ((result .length ≡ 0) × (d′ ≡ d)) legal bytes d
+      (λ e. nothing (says (reply-4 bytes (length d) e)))
+      (λ e h. nothing (says (reply-7 bytes (length d) e h)))
+      (λ e h. absurd (n (number (reply-0 bytes (length d) e h))))
+    where
+      nothing : {m : ℕ} → Says (refused m) → (result .length ≡ 0) × (d′ ≡ d)
+      nothing s = (ap (λ (r : Sent). r .length) (s .0), s .1)
 
-  nothing : {n : ℕ} → replyOf legal bytes (length d) ≡ refused n → (result .length ≡ 0) × (d′ ≡ d)
-  nothing e = (ap (λ (r : Sent). r .length) (sent e), buffer e)
-
-  pub reply-tells : ReplyTells legal bytes d d′ result
-  reply-tells =
-      record {
-        number-4 = number-4;
-        number-7 = number-7;
-        number-0 = number-0;
-        done =
-            λ n.
-            by-tests ((result .length ≡ length bytes) × (d′ ≡ overwrite bytes d)) legal bytes d
-            (λ e. absurd (omega (arith, n, number-4 e)))
-            (λ e h. absurd (omega (arith, n, number-7 e h)))
-            (λ e h. (ap (λ (r : Sent). r .length) (sent (reply-0 bytes (length d) e h)), buffer (reply-0 bytes (length d) e h)));
-        nothing-written =
-            λ n.
-            by-tests ((result .length ≡ 0) × (d′ ≡ d)) legal bytes d
-            (λ e. nothing (reply-4 bytes (length d) e))
-            (λ e h. nothing (reply-7 bytes (length d) e h))
-            (λ e h. absurd (n (number-0 e h)));
-      }
+pub replies-tell : RepliesTell
+unfolding overwrite
+replies-tell legal bytes d d′ result x =
+    record {
+      number-4 = λ e. number legal bytes d d′ result x (reply-4 bytes (length d) e);
+      number-7 = λ e h. number legal bytes d d′ result x (reply-7 bytes (length d) e h);
+      number-0 = λ e h. number legal bytes d d′ result x (reply-0 bytes (length d) e h);
+      done-length = λ n. ap (λ (r : Sent). r .length) (done legal bytes d d′ result x n .0);
+      done-bytes = λ n. ap (take (length bytes)) (done legal bytes d d′ result x n .1) ∙ take-append-seam bytes (drop (length bytes) d);
+      done-rest = λ n. ap (drop (length bytes)) (done legal bytes d d′ result x n .1) ∙ drop-append-seam bytes (drop (length bytes) d);
+      refused-length = λ n. refusal legal bytes d d′ result x n .0;
+      refused-buffer = λ n. refusal legal bytes d d′ result x n .1;
+    }

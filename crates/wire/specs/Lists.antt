@@ -23,7 +23,7 @@ span a (suc n) = a ∷ span (suc a) n
 
 -- the numbers from a first to a last one
 abbrev pub fromTo : ℕ → ℕ → List ℕ
-fromTo first last = span first (suc last - first)
+fromTo first last = span first (last + 1 - first)
 
 -- the numbers of a list, added up
 abbrev pub sum : List ℕ → ℕ

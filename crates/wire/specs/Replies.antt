@@ -5,7 +5,7 @@ use mathlib.Core.Bool.{Bool, true, false, cond}
 use mathlib.Core.List.{List}
 use Prim.Native.Nat.{ℕ, _≤_, _<_}
 use lib.Dec.{leb}
-use lib.ListN.{length}
+use lib.ListN.{length, take, drop}
 use Rattle.wire.specs.Buffer.{overwrite}
 use Rattle.wire.specs.declared.Sent.{Sent}
 
@@ -32,13 +32,22 @@ pub record Replied (reply : ℕ → Reply) (before after : List ℕ) (result : S
   pub sent : result ≡ sentOf (reply (length before))
   pub buffer : after ≡ leftIn (reply (length before)) before
 
--- THEOREM: what the contract tells of a call that writes these bytes where its data are legal
+-- what is told of a call that writes these bytes where its data are legal
 pub record ReplyTells (legal : Bool) (bytes before after : List ℕ) (result : Sent) : Type 0 where
   -- each number exactly in its case
   pub number-4 : legal ≡ false → result .number ≡ 4
   pub number-7 : legal ≡ true → length before < length bytes → result .number ≡ 7
   pub number-0 : legal ≡ true → length bytes ≤ length before → result .number ≡ 0
-  -- 0: the length is that of the bytes, which stand at the buffer's start, and all else is untouched
-  pub done : result .number ≡ 0 → (result .length ≡ length bytes) × (after ≡ overwrite bytes before)
+  -- 0: the length is that of the bytes, which stand at the buffer's start, and what follows them is as it was
+  pub done-length : result .number ≡ 0 → result .length ≡ length bytes
+  pub done-bytes : result .number ≡ 0 → take (length bytes) after ≡ bytes
+  pub done-rest : result .number ≡ 0 → drop (length bytes) after ≡ drop (length bytes) before
   -- any other number: length 0, and the buffer as it was
-  pub nothing-written : (result .number ≡ 0 → ⊥) → (result .length ≡ 0) × (after ≡ before)
+  pub refused-length : (result .number ≡ 0 → ⊥) → result .length ≡ 0
+  pub refused-buffer : (result .number ≡ 0 → ⊥) → after ≡ before
+
+-- THEOREM: the contract tells it
+abbrev pub RepliesTell : Type 0
+RepliesTell =
+    (legal : Bool) (bytes before after : List ℕ) (result : Sent) → Replied (replyOf legal bytes) before after result
+    → ReplyTells legal bytes before after result
