@@ -100,9 +100,8 @@ from f lo (suc n) t k a b =
     (eq-or-lt-of-le a)
 
 -- a table whose entries are a function's values
-pub table : {A : Type 0} (same : A → A → Bool) → ((x y : A) → T (same x y) → x ≡ y) → (f : ℕ → A) (d : A) (xs : List A)
-    → T (allFrom (λ k. same (getD xs k d) (f k)) 0 (length xs)) → (k : ℕ) → k < length xs → getD xs k d ≡ f k
-table same sound f d xs t k h = sound (getD xs k d) (f k) (from (λ k. same (getD xs k d) (f k)) 0 (length xs) t k zero-le (omega arith))
+pub table : (f : ℕ → ℕ) (xs : List ℕ) → T (allFrom (λ k. eqb (getD xs k 0) (f k)) 0 (length xs)) → (k : ℕ) → k < length xs → getD xs k 0 ≡ f k
+table f xs t k h = eqb→eq (getD xs k 0) (f k) (from (λ k. eqb (getD xs k 0) (f k)) 0 (length xs) t k zero-le (omega arith))
 
 -- ---- padded
 
