@@ -15,10 +15,10 @@ use Rattle.frame.specs.FrameTable.{dataLength}
 use Rattle.frame.specs.Push.{bodySizeAs, nextOf, emptyPartial, afterOf, beginsFrame}
 use Rattle.frame.specs.Reach.{reachableOf}
 use Rattle.frame.specs.RunTable.{waits}
-use Rattle.frame.specs.Cut.{ReachableExact, RunOf128s, CutInNumbers, CutByTable, EveryPush, StoredAsSent, longSong, RemainingNeeded}
+use Rattle.frame.specs.Cut.{ReachableExact, RunOf128s, CutInNumbers, CutByTable, EveryPush, StoredAsSent, CompleteExactly, longSong, RemainingNeeded}
 use Rattle.frame.proofs.PushLaws.{not-opcodes, still-remain, last-ends, opcodes-append, after-append, stays-array, full-stays, complete-done, finishes, finishes-rest}
 use Rattle.frame.proofs.ReachLaws.{skipping, of-facts, places-le, empty-reachable, next-reachable, after-reachable}
-use Rattle.frame.proofs.StoredLaws.{partial-as-sent, complete-as-sent}
+use Rattle.frame.proofs.StoredLaws.{partial-as-sent, complete-as-sent, sized-completes, completes-sized}
 use Rattle.frame.proofs.Reached.{reachable-left, only-song}
 use Rattle.frame.proofs.RunTableLaws.{rows-run, steps, opcode-at, remaining-le, waits-le}
 
@@ -42,6 +42,9 @@ every-push = record { stays-array = stays-array; full-stays = full-stays; comple
 
 pub stored-as-sent : StoredAsSent
 stored-as-sent = record { partial-as-sent = partial-as-sent; complete-as-sent = complete-as-sent }
+
+pub complete-exactly : CompleteExactly
+complete-exactly = record { sized-completes = sized-completes; completes-sized = completes-sized }
 
 pub reachable-exact : ReachableExact
 reachable-exact =

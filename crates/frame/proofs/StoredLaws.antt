@@ -1,4 +1,5 @@
--- What is kept of a frame is stored as it was sent: `partialOf` of a frame's first bytes is kept up by each byte more.
+-- What is kept of a frame is stored as it was sent: `partialOf` of a frame's first bytes is kept up by each byte more. So a frame is
+-- complete at its last byte, and not before.
 -- Assumes nothing.
 use mathlib.Core.Path.{_≡_, refl, sym, subst, ap, ap₂, _∙_}
 use mathlib.Core.Bool.{Bool, true, false}
@@ -8,16 +9,16 @@ use Prim.Native.Nat.{ℕ, _+_, _-_, _≤_, _<_}
 use native.Mathlib.Nat.{eq-or-lt-of-le}
 use native.Mathlib.Omega.{arith}
 use lib.Dec.{T, eqb}
-use lib.ListN.{length, take, length-append, List·getD-append}
+use lib.ListN.{length, take, replicate, length-append, List·getD-append}
 use lib.Seq.{take-all, take-append-le, getD-take}
 use mir.Facts.{and-yes, yes-and}
-use borrow.Author.Tests.{lt-ltb, le-ltb, eq-eqb, ne-eqb}
+use borrow.Author.Tests.{lt-ltb, le-ltb, eq-eqb, ne-eqb, eqb-true, eqb-false}
 use Rattle.wire.specs.Lists.{isByte, allBytes, snoc, padded}
 use Rattle.wire.proofs.BoolLaws.{le-or-lt, eqb-iff, cond-true, cond-false}
 use Rattle.wire.proofs.ListsLaws.{all-append, getD-zeros, set-padded}
 use Rattle.frame.specs.FrameTable.{dataLength, headerSize}
-use Rattle.frame.specs.Push.{bodySizeAs, lengthOf, headerOf, frameSize, bodySize, storesBody, measureOf, pushOf, stored, emptyPartial, nextOf, afterOf}
-use Rattle.frame.specs.Cut.{keptOf, partialOf}
+use Rattle.frame.specs.Push.{bodySizeAs, lengthOf, headerOf, frameSize, bodySize, storesBody, measureOf, pushOf, stored, emptyPartial, nextOf, afterOf, completed}
+use Rattle.frame.specs.Cut.{keptOf, partialOf, CompleteAtLast}
 use Rattle.frame.specs.declared.Partial.{Partial}
 use Rattle.frame.specs.declared.Pushed.{Pushed}
 use Rattle.frame.proofs.PushLaws.{header-pos, header-le, header-le-frame, stored-fits, Agree, header-agree, frame-agree, body-agree, stores-agree, partial-eq, measure-waits, measure-known, push-header, push-stored, push-skipped, next-more, after-append}
@@ -96,8 +97,8 @@ module _ (bs : List ℕ) (b : ℕ) where
     same : Agree (headerOf bs) more bs
     same i a = List·getD-append bs (b ∷ []) 0 i (omega arith)
 
-    completes : eqb (frameSize bs - length bs) 1 ≡ eqb (length more) (frameSize more)
-    completes =
+    last-remaining : eqb (frameSize bs - length bs) 1 ≡ eqb (length more) (frameSize more)
+    last-remaining =
         let n = more-length in
         let f = frame-agree more bs same in
         eqb-iff (frameSize bs - length bs) 1 (length more) (frameSize more)
@@ -114,7 +115,7 @@ module _ (bs : List ℕ) (b : ℕ) where
         (partial-eq _ (padded 35 more) (length bs + 1) (length more) (frameSize bs - length bs - 1) (frameSize more - length more)
         (set-padded 35 bs b room) (sym n) (omega arith)
         ∙ sym (partial-known more more (omega arith) (kept-all more (stores-agree more bs same ∙ k))))
-        completes
+        last-remaining
 
     -- the header, in the first of the places, decides as the bytes do
     header-same : Agree (headerOf bs) (padded 35 (take (headerOf bs) bs)) bs
@@ -133,7 +134,7 @@ module _ (bs : List ℕ) (b : ℕ) where
         ∙ sym
         (partial-known more (take (headerOf bs) bs) (omega arith)
         (kept-header more (stores-agree more bs same ∙ k) ∙ ap (λ (m : ℕ). take m more) hd ∙ take-append-le (headerOf bs) bs (b ∷ []) h)))
-        completes
+        last-remaining
 
 -- ---- after any bytes
 
@@ -205,3 +206,79 @@ last-byte (a ∷ bs) b t e =
 pub complete-as-sent : (bs : List ℕ) (b : ℕ) → T (allBytes bs) → length (snoc bs b) ≡ frameSize (snoc bs b)
     → pushOf (afterOf emptyPartial bs) b ≡ record { partial = partialOf (snoc bs b); complete = true }
 complete-as-sent bs b t e = last-byte bs b t e ∙ pushed _ _ _ _ refl (eq-eqb (length (snoc bs b)) (frameSize (snoc bs b)) e)
+
+-- ---- a frame is complete at its last byte, and not before
+
+from-empty : partialOf [] ≡ emptyPartial
+from-empty = partial-in-header [] (header-pos (lengthOf []))
+
+-- a list that lacks data, empty or not
+right-any : (bs : List ℕ) → T (allBytes bs) → length bs < frameSize bs → (b : ℕ) → Right bs b (pushOf (partialOf bs) b)
+right-any [] t lacks b = ap (λ (p : Partial). pushOf p b) from-empty ∙ right-in-header [] b (header-pos (lengthOf (b ∷ [])))
+right-any (a ∷ bs) t lacks b = right-after (a ∷ bs) t (omega arith) lacks b
+
+-- one byte more is at most the last one: the header is within the frame, and after it the size stays
+grows-le : (bs : List ℕ) (b : ℕ) → length bs < frameSize bs → length (snoc bs b) ≤ frameSize (snoc bs b)
+grows-le [] b lacks = omega arith
+grows-le (a ∷ bs) b lacks =
+    let more = snoc (a ∷ bs) b in
+    let n = length-append (a ∷ bs) (b ∷ []) in
+    let fl = header-le-frame (lengthOf more) more in
+    ⊎-elim (λ (h : headerOf (a ∷ bs) ≤ length (a ∷ bs)).
+    let f = frame-agree more (a ∷ bs) (λ i l. List·getD-append (a ∷ bs) (b ∷ []) 0 i (omega arith)) in
+    omega arith)
+    (λ (h : length (a ∷ bs) < headerOf (a ∷ bs)). omega arith)
+    (le-or-lt (headerOf (a ∷ bs)) (length (a ∷ bs)))
+
+module _ (bs : List ℕ) (d : ℕ) (t : T (allBytes bs)) (lacks : length bs < frameSize bs) where
+  -- the byte d after bs is marked by the size alone
+  mark : pushOf (partialOf bs) d .complete ≡ eqb (length (snoc bs d)) (frameSize (snoc bs d))
+  mark = ap (λ (x : Pushed). x .complete) (right-any bs t lacks d)
+
+  -- a byte that is not the last: it is marked false, and the rest is marked from the longer list
+  marks : (ds : List ℕ) → length (snoc bs d) < frameSize (snoc bs d)
+      → completed (partialOf bs) (d ∷ ds) ≡ false ∷ completed (partialOf (snoc bs d)) ds
+  marks ds l =
+      ap₂ (λ (c : Bool) (p : Partial). c ∷ completed p ds)
+      (mark ∙ ne-eqb _ _ (λ (z : length (snoc bs d) ≡ frameSize (snoc bs d)). omega arith))
+      (next-partial (partialOf bs) bs d (right-any bs t lacks d) l)
+
+  -- a byte that is marked false is not the last
+  unmarked : pushOf (partialOf bs) d .complete ≡ false → length (snoc bs d) < frameSize (snoc bs d)
+  unmarked c =
+      ⊎-elim (λ (z : length (snoc bs d) ≡ frameSize (snoc bs d)). absurd (eqb-false _ _ (sym mark ∙ c) z)) (λ l. l)
+      (eq-or-lt-of-le (grows-le bs d lacks))
+
+snoc-bytes : (bs ds : List ℕ) (d : ℕ) → T (allBytes bs) → T (allBytes (d ∷ ds)) → T (allBytes (snoc bs d))
+snoc-bytes bs ds d t u = all-append isByte bs (d ∷ []) t (yes-and (isByte d) true (and-yes (isByte d) (allBytes ds) u .0) tt)
+
+-- bs has come, and ds and b are the rest of a frame: b alone completes it
+sized-marks : (ds bs : List ℕ) (b : ℕ) → T (allBytes bs) → T (allBytes ds) → length bs < frameSize bs
+    → length (bs ++ snoc ds b) ≡ frameSize (bs ++ snoc ds b) → completed (partialOf bs) (snoc ds b) ≡ replicate (length ds) false ++ (true ∷ [])
+sized-marks [] bs b t u lacks e = ap (λ (c : Bool). c ∷ []) (mark bs b t lacks ∙ eq-eqb _ _ e)
+sized-marks (d ∷ ds) bs b t u lacks e =
+    let same : snoc bs d ++ snoc ds b ≡ bs ++ (d ∷ snoc ds b) = append-assoc bs (d ∷ []) (snoc ds b) in
+    let n = length-append bs (d ∷ []) in
+    let m = length-append bs (d ∷ snoc ds b) in
+    let k = length-append ds (b ∷ []) in
+    let more = prefix-lacks (snoc bs d) (snoc ds b) (omega arith) (rw same (omega arith)) in
+    marks bs d t lacks (snoc ds b) more
+    ∙ ap (λ (l : List Bool). false ∷ l)
+    (sized-marks ds (snoc bs d) b (snoc-bytes bs ds d t u) (and-yes (isByte d) (allBytes ds) u .1) more (rw same e))
+
+-- and back: while the marks are false the longer list lacks data, and the one mark that is true gives the size
+marks-sized : (ds bs : List ℕ) (b : ℕ) → T (allBytes bs) → T (allBytes ds) → length bs < frameSize bs
+    → completed (partialOf bs) (snoc ds b) ≡ replicate (length ds) false ++ (true ∷ []) → length (bs ++ snoc ds b) ≡ frameSize (bs ++ snoc ds b)
+marks-sized [] bs b t u lacks e = eqb-true _ _ (sym (mark bs b t lacks) ∙ cc e)
+marks-sized (d ∷ ds) bs b t u lacks e =
+    let same : snoc bs d ++ snoc ds b ≡ bs ++ (d ∷ snoc ds b) = append-assoc bs (d ∷ []) (snoc ds b) in
+    let more = unmarked bs d t lacks (cc e) in
+    subst (λ (l : List ℕ). length l ≡ frameSize l) same
+    (marks-sized ds (snoc bs d) b (snoc-bytes bs ds d t u) (and-yes (isByte d) (allBytes ds) u .1) more
+    (cc (sym (marks bs d t lacks (snoc ds b) more) ∙ e)))
+
+pub sized-completes : (bs : List ℕ) (b : ℕ) → T (allBytes bs) → length (snoc bs b) ≡ frameSize (snoc bs b) → CompleteAtLast bs b
+sized-completes bs b t e = rw (sym from-empty) (sized-marks bs [] b tt t (omega arith) e)
+
+pub completes-sized : (bs : List ℕ) (b : ℕ) → T (allBytes bs) → CompleteAtLast bs b → length (snoc bs b) ≡ frameSize (snoc bs b)
+completes-sized bs b t e = marks-sized bs [] b tt t (omega arith) (rw from-empty e)

@@ -8,7 +8,7 @@ use lib.Dec.{T, leb, ltb}
 use lib.ListN.{length, getD, take, replicate}
 use Rattle.wire.specs.Lists.{all, allFrom, snoc, allBytes}
 use Rattle.frame.specs.FrameTable.{dataLength, dataBytes}
-use Rattle.frame.specs.Push.{headerOf, frameSize, storesBody, pushOf, stored, emptyPartial, nextOf, afterOf, beginsFrame, opcodes}
+use Rattle.frame.specs.Push.{headerOf, frameSize, storesBody, pushOf, stored, emptyPartial, nextOf, afterOf, beginsFrame, opcodes, completed}
 use Rattle.frame.specs.Reach.{isArray, reachableOf}
 use Rattle.frame.specs.RunTable.{runTable, waits, rowRuns}
 use Rattle.frame.specs.Cases.{frameCases, caseRight, countRight}
@@ -61,6 +61,15 @@ pub record StoredAsSent : Type 0 where
   -- at the last byte, b; bs is empty for a frame of one byte
   pub complete-as-sent : (bs : List ℕ) (b : ℕ) → T (allBytes bs) → length (snoc bs b) ≡ frameSize (snoc bs b)
       → pushOf (afterOf emptyPartial bs) b ≡ record { partial = partialOf (snoc bs b); complete = true }
+
+-- no byte of the list completes a frame but the last one, b
+abbrev pub CompleteAtLast : List ℕ → ℕ → Type 0
+CompleteAtLast bs b = completed emptyPartial (snoc bs b) ≡ replicate (length bs) false ++ (true ∷ [])
+
+-- THEOREM: a list of bytes completes a frame at its last byte, and not before, exactly when it is as long as the frame that it begins
+pub record CompleteExactly : Type 0 where
+  pub sized-completes : (bs : List ℕ) (b : ℕ) → T (allBytes bs) → length (snoc bs b) ≡ frameSize (snoc bs b) → CompleteAtLast bs b
+  pub completes-sized : (bs : List ℕ) (b : ℕ) → T (allBytes bs) → CompleteAtLast bs b → length (snoc bs b) ≡ frameSize (snoc bs b)
 
 -- some list of bytes leaves this partial frame, from nothing
 pub record LeftBySome (p : Partial) : Type 0 where

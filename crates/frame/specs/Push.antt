@@ -105,3 +105,8 @@ beginsFrame p = eqb (p .remaining) 0 && eqb (p .count) 0
 abbrev pub opcodes : Partial → List ℕ → List Bool
 opcodes p [] = []
 opcodes p (b ∷ bs) = beginsFrame p ∷ opcodes (nextOf p b) bs
+
+-- which bytes of a list complete a frame, each pushed onto what those before it leave
+abbrev pub completed : Partial → List ℕ → List Bool
+completed p [] = []
+completed p (b ∷ bs) = pushOf p b .complete ∷ completed (nextOf p b) bs

@@ -1,7 +1,7 @@
 -- Bool tests as facts. The library has those on `&&`, `||` and `not` (`mir.Facts`), and on the tests of numbers (`borrow.Author.Tests`).
 -- Assumes nothing.
 use mathlib.Core.Path.{_≡_, refl, sym, ap, subst, _∙_}
-use mathlib.Core.Bool.{Bool, true, false, not, cond, _||_}
+use mathlib.Core.Bool.{Bool, true, false, not, cond, _||_, Bool·beq}
 use mathlib.Core.Logic.{_⊎_, inl, inr, ⊎-elim}
 use Prim.Native.Nat.{ℕ, zero, suc, _-_, _≤_, _<_, zero-le, suc-le-suc}
 use native.Mathlib.Nat.{eq-or-lt-of-le}
@@ -16,10 +16,21 @@ is-true false t = absurd t
 pub to-T : (b : Bool) → b ≡ true → T b
 to-T b e = subst T (sym e) tt
 
+-- two tests with the same value
+pub beq-eq : (a b : Bool) → T (Bool·beq a b) → a ≡ b
+beq-eq true true t = refl
+beq-eq true false t = absurd t
+beq-eq false true t = absurd t
+beq-eq false false t = refl
+
 -- a test that asks b only where a passes
 pub implied : (a b : Bool) → T (not a || b) → T a → T b
 implied true b t h = t
 implied false b t h = absurd h
+
+pub or-none : (b : Bool) → (b || false) ≡ b
+or-none true = refl
+or-none false = refl
 
 -- ---- cond
 

@@ -6,9 +6,11 @@ use Prim.Native.Nat.{ℕ, _+_, _≤_, _<_}
 use native.Mathlib.Nat.{zero-add, add-zero, add-assoc}
 use native.Mathlib.Numerals.{add-one}
 use native.Mathlib.Omega.{arith}
-use lib.ListN.{length, take, drop, set, length-append, length-take, length-drop, take-append-drop}
+use lib.ListN.{length, take, drop, set, replicate, length-append, length-take, length-drop, take-append-drop}
 use lib.Seq.{set-split, take-at, drop-append-add, length-take-le, drop-drop}
+use Rattle.wire.specs.Lists.{padded}
 use Rattle.wire.specs.Buffer.{overwrite, placed, Put}
+use Rattle.wire.proofs.ListsLaws.{drop-zeros}
 
 -- ---- overwrite
 
@@ -19,6 +21,11 @@ overwrite-nil d = refl
 pub length-overwrite : (a d : List ℕ) → length a ≤ length d → length (overwrite a d) ≡ length d
 unfolding overwrite
 length-overwrite a d h = simp (length-append, length-drop) (omega arith)
+
+-- a list at the start of an array of zeros
+pub overwrite-zeros : (a : List ℕ) (n : ℕ) → overwrite a (replicate n 0) ≡ padded n a
+unfolding overwrite
+overwrite-zeros a n = ap (λ (l : List ℕ). a ++ l) (drop-zeros n (length a))
 
 -- ---- placed
 

@@ -1,6 +1,6 @@
 -- Laws of lists, and of the tests over them.
 -- Assumes nothing.
-use mathlib.Core.Path.{_≡_, refl, sym, ap, subst, _∙_}
+use mathlib.Core.Path.{_≡_, refl, sym, ap, ap₂, subst, _∙_}
 use mathlib.Core.Bool.{Bool, true, _&&_}
 use mathlib.Core.List.{List, [], _∷_, _++_, append-assoc, map, flatMap}
 use mathlib.Core.Logic.{⊎-elim}
@@ -13,12 +13,18 @@ use lib.ListN.{length, getD, set, take, drop, replicate, length-append, length-d
 use lib.Seq.{drop-cons, set-append-seam}
 use mir.Facts.{and-yes, yes-and, yes-ltb}
 use borrow.Author.Tests.{lt-ltb}
-use Rattle.wire.specs.Lists.{all, allFrom, span, sum, snoc, padded, isZero, isByte, allZero, allBytes, byteArray}
+use Rattle.wire.specs.Lists.{all, allFrom, span, sum, snoc, padded, sameList, isZero, isByte, allZero, allBytes, byteArray}
 
 -- ---- lists from an index on
 
 pub drop-next : (l : List ℕ) (i : ℕ) → i < length l → drop i l ≡ getD l i 0 ∷ drop (i + 1) l
 drop-next l i h = rw add-one (drop-cons l i 0 h)
+
+-- n elements from an index on, one by one
+pub take-span : (l : List ℕ) (i n : ℕ) → i + n ≤ length l → take n (drop i l) ≡ map (λ k. getD l k 0) (span i n)
+take-span l i zero h = refl
+take-span l i (suc n) h =
+    ap (take (suc n)) (drop-cons l i 0 (omega arith)) ∙ ap (λ (m : List ℕ). getD l i 0 ∷ m) (take-span l (suc i) n (omega arith))
 
 -- ---- span: the numbers from p on, below an end
 
@@ -31,6 +37,16 @@ span-end p end h = let e : end - p ≡ 0 = omega arith in rw e refl
 pub span-snoc : (a n : ℕ) → span a (suc n) ≡ snoc (span a n) (a + n)
 span-snoc a zero = let e : a ≡ a + 0 = omega arith in ap (λ (k : ℕ). k ∷ []) e
 span-snoc a (suc n) = let e : suc a + n ≡ a + suc n = omega arith in ap (λ (l : List ℕ). a ∷ l) (span-snoc (suc a) n ∙ ap (snoc (span (suc a) n)) e)
+
+-- ---- sameList
+
+pub same-list : (l m : List ℕ) → T (sameList l m) → l ≡ m
+same-list [] [] t = refl
+same-list [] (y ∷ ys) t = absurd t
+same-list (x ∷ xs) [] t = absurd t
+same-list (x ∷ xs) (y ∷ ys) t =
+    let s = and-yes (eqb x y) (sameList xs ys) t in
+    ap₂ (λ (n : ℕ) (l : List ℕ). n ∷ l) (eqb→eq x y (s .0)) (same-list xs ys (s .1))
 
 -- ---- sum
 
@@ -104,6 +120,11 @@ pub table : (f : ℕ → ℕ) (xs : List ℕ) → T (allFrom (λ k. eqb (getD xs
 table f xs t k h = eqb→eq (getD xs k 0) (f k) (from (λ k. eqb (getD xs k 0) (f k)) 0 (length xs) t k zero-le (omega arith))
 
 -- ---- padded
+
+pub drop-zeros : (n k : ℕ) → drop {A = ℕ} k (replicate n 0) ≡ replicate (n - k) 0
+drop-zeros n zero = let e : n ≡ n - 0 = omega arith in ap (λ (m : ℕ). replicate m 0) e
+drop-zeros zero (suc k) = let e : 0 ≡ 0 - suc k = omega arith in ap (λ (m : ℕ). replicate m 0) e
+drop-zeros (suc n) (suc k) = let e : n - k ≡ suc n - suc k = omega arith in drop-zeros n k ∙ ap (λ (m : ℕ). replicate m 0) e
 
 pub getD-zeros : (l : List ℕ) (k i : ℕ) → getD (l ++ replicate k 0) i 0 ≡ getD l i 0
 getD-zeros [] zero i = refl

@@ -1,7 +1,7 @@
 -- A `match` on a number against a rule: one test, which antt computes over all the numbers, shows that each arm gives what the rule says.
 -- The compiler tests for the single numbers of the arms (their keys) first, and then for ranges, from which all keys are gone.
 -- Assumes nothing.
-use mathlib.Core.Path.{_≡_}
+use mathlib.Core.Path.{_≡_, sym, subst}
 use mathlib.Core.Bool.{Bool, true, false, not, _&&_, _||_}
 use mathlib.Core.List.{List, [], _∷_}
 use mathlib.Core.Logic.{⊎-elim}
@@ -59,14 +59,17 @@ taken-takes kss (range first last) n h =
     (yes-and (leb first n) (leb n last) (yes-leb (h .0)) (yes-leb (h .1 .0)))
     (not-T (keyed kss n) (not-keyed kss n (h .1 .1)))
 
+-- a test that every key passes
+pub one-of : (f : ℕ → Bool) (ks : List ℕ) (n : ℕ) → T (all f ks) → OneOf ks n → T (f n)
+one-of f [] n t h = absurd h
+one-of f (k ∷ []) n t h = subst (λ (m : ℕ). T (f m)) (sym h) (and-yes (f k) true t .0)
+one-of f (k ∷ k′ ∷ ks) n t h =
+    let s = and-yes (f k) (all f (k′ ∷ ks)) t in
+    ⊎-elim (λ (e : n ≡ k). subst (λ (m : ℕ). T (f m)) (sym e) (s .0)) (λ r. one-of f (k′ ∷ ks) n (s .1) r) h
+
 -- a key is below what all keys are below
 pub key-below : (ks : List ℕ) (m n : ℕ) → T (all (λ k. ltb k m) ks) → OneOf ks n → n < m
-key-below [] m n t h = absurd h
-key-below (k ∷ []) m n t h = let l = ltb→lt k m (and-yes (ltb k m) true t .0) in omega arith
-key-below (k ∷ k′ ∷ ks) m n t h =
-    let s = and-yes (ltb k m) (all (λ k. ltb k m) (k′ ∷ ks)) t in
-    let l = ltb→lt k m (s .0) in
-    ⊎-elim (λ (e : n ≡ k). omega arith) (λ r. key-below (k′ ∷ ks) m n (s .1) r) h
+key-below ks m n t h = ltb→lt n m (one-of (λ k. ltb k m) ks n t h)
 
 -- ---- the one test, and the law
 

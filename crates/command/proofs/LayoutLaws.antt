@@ -1,0 +1,157 @@
+-- Laws of a command as bytes.
+-- Assumes nothing.
+use mathlib.Core.Path.{_≡_, refl, sym, ap, ap₂, _∙_}
+use mathlib.Core.Bool.{Bool, true, false, cond}
+use mathlib.Core.List.{List, [], _∷_, map}
+use mathlib.Core.Logic.{⊎-elim}
+use Prim.Native.Nat.{ℕ, _+_, _-_, _≤_, _<_}
+use native.Mathlib.Omega.{arith}
+use lib.Dec.{eqb}
+use lib.ListN.{length, getD, take, drop, replicate, length-append}
+use lib.Seq.{length-take-le, take-append-seam}
+use borrow.Author.Tests.{le-leb, lt-leb}
+use Rattle.wire.specs.Lists.{among, within, padded}
+use Rattle.wire.specs.Buffer.{Put}
+use Rattle.wire.proofs.BoolLaws.{le-or-lt}
+use Rattle.wire.proofs.BufferLaws.{overwrite-zeros, put-start, put-then}
+use Rattle.command.specs.Layout.{storedCount, payloadSize, headOf, headed, payloadIn, encodeOf, Reading, readings, otherwise, look, commandOf, decodeOf}
+use Rattle.command.specs.declared.Command.{Command}
+use Rattle.command.specs.declared.Command.the-variants.{Start, Baud, Control, Safe, Full, Power, Demo, Spot, Cover, Dock, Drive, Direct, Drivers, Duties, Leds, Outputs, Infrared, Song, Play, Sensors, QueryList, Stream, Pause, Unknown, NotOffered}
+use Rattle.command.specs.declared.Message.{Message}
+use Rattle.command.specs.declared.Head.{Head}
+
+-- ---- storedCount
+
+pub stored-all : (n : ℕ) → n ≤ 16 → storedCount n ≡ n
+stored-all n h = simp (le-leb n 16 h)
+
+pub stored-none : (n : ℕ) → 16 < n → storedCount n ≡ 0
+stored-none n h = simp (lt-leb n 16 h)
+
+pub stored-le : (n : ℕ) → storedCount n ≤ 16
+stored-le n = ⊎-elim (λ (h : n ≤ 16). rw (stored-all n h) h) (λ (h : 16 < n). rw (stored-none n h) (omega arith)) (le-or-lt n 16)
+
+-- ---- sizes: the bytes before the payload, and the places of it in use
+
+abbrev Small : Command → Type 0
+Small c = (length (headOf c) ≤ 5) × ((payloadSize c ≤ 32) × (length (headOf c) + payloadSize c ≤ 35))
+
+pub small : (c : Command) → Small c
+small Start = (omega arith, (omega arith, omega arith))
+small (Baud code) = (omega arith, (omega arith, omega arith))
+small Control = (omega arith, (omega arith, omega arith))
+small Safe = (omega arith, (omega arith, omega arith))
+small Full = (omega arith, (omega arith, omega arith))
+small Power = (omega arith, (omega arith, omega arith))
+small Demo = (omega arith, (omega arith, omega arith))
+small Spot = (omega arith, (omega arith, omega arith))
+small Cover = (omega arith, (omega arith, omega arith))
+small Dock = (omega arith, (omega arith, omega arith))
+small (Drive velocity radius) = (omega arith, (omega arith, omega arith))
+small (Direct right left) = (omega arith, (omega arith, omega arith))
+small (Drivers bits) = (omega arith, (omega arith, omega arith))
+small (Duties driver2 driver1 driver0) = (omega arith, (omega arith, omega arith))
+small (Leds bits color intensity) = (omega arith, (omega arith, omega arith))
+small (Outputs bits) = (omega arith, (omega arith, omega arith))
+small (Infrared code) = (omega arith, (omega arith, omega arith))
+small (Song number notes) = let h = stored-le notes in (omega arith, (omega arith, omega arith))
+small (Play number) = (omega arith, (omega arith, omega arith))
+small (Sensors id) = (omega arith, (omega arith, omega arith))
+small (QueryList ids) = let h = stored-le ids in (omega arith, (omega arith, omega arith))
+small (Stream ids) = let h = stored-le ids in (omega arith, (omega arith, omega arith))
+small (Pause on) = (omega arith, (omega arith, omega arith))
+small (Unknown op) = (omega arith, (omega arith, omega arith))
+small (NotOffered op) = (omega arith, (omega arith, omega arith))
+
+-- ---- headOf: an arm that knows the command
+
+pub head-as : {x y : Command} {h : Head} → h ≡ headed (headOf y) → x ≡ y → h ≡ headed (headOf x)
+head-as p e = p ∙ ap (λ (c : Command). headed (headOf c)) (sym e)
+
+-- ---- commandOf
+
+-- an arm that knows the opcode
+pub says : (bytes : List ℕ) {op : ℕ} → getD bytes 0 0 ≡ op
+    → look readings op (getD bytes 1 0) (getD bytes 2 0) (getD bytes 3 0) (getD bytes 4 0) ≡ commandOf bytes
+unfolding commandOf
+says bytes e = sym (ap (λ (k : ℕ). look readings k (getD bytes 1 0) (getD bytes 2 0) (getD bytes 3 0) (getD bytes 4 0)) e)
+
+-- the opcodes that are read
+abbrev opcodes : List Reading → List ℕ
+opcodes rs = map (λ (r : Reading). r .opcode) rs
+
+-- which opcodes are left: 2 not offered, 1 unknown; 0 is for those that are read
+abbrev pub sort : ℕ → ℕ
+sort op = cond (among (opcodes readings) op) 0 (cond (within 152 158 op) 2 1)
+
+look-miss : (r : Reading) (rs : List Reading) (op a b c d : ℕ) (t : Bool) → eqb op (r .opcode) ≡ t → among (opcodes (r ∷ rs)) op ≡ false
+    → (among (opcodes rs) op ≡ false → look rs op a b c d ≡ otherwise op) → look (r ∷ rs) op a b c d ≡ otherwise op
+look-miss r rs op a b c d true t e f = cc (rw t at e)
+look-miss r rs op a b c d false t e f = simp t (f (rw t at e))
+
+look-none : (rs : List Reading) (op a b c d : ℕ) → among (opcodes rs) op ≡ false → look rs op a b c d ≡ otherwise op
+look-none [] op a b c d e = refl
+look-none (r ∷ rs) op a b c d e = look-miss r rs op a b c d (eqb op (r .opcode)) refl e (look-none rs op a b c d)
+
+module _ (bytes : List ℕ) where
+  abbrev op : ℕ
+  op = getD bytes 0 0
+
+  left-over : (n : ℕ) → 0 < n → n ≡ sort op → (commandOf bytes ≡ otherwise op) × (n ≡ cond (within 152 158 op) 2 1)
+  unfolding commandOf
+  left-over n h e = go (among (opcodes readings) op) refl
+    where
+      go : (t : Bool) → among (opcodes readings) op ≡ t → (commandOf bytes ≡ otherwise op) × (n ≡ cond (within 152 158 op) 2 1)
+      go true t = absurd (let z : n ≡ 0 = e ∙ simp t in omega arith)
+      go false t = (look-none readings op (getD bytes 1 0) (getD bytes 2 0) (getD bytes 3 0) (getD bytes 4 0) t, e ∙ simp t)
+
+  -- an arm for what is left
+  pub not-offered : 2 ≡ sort op → NotOffered op ≡ commandOf bytes
+  not-offered e = go (within 152 158 op) refl
+    where
+      go : (t : Bool) → within 152 158 op ≡ t → NotOffered op ≡ commandOf bytes
+      go true t = sym (left-over 2 (omega arith) e .0 ∙ simp t)
+      go false t = absurd (let z : 2 ≡ 1 = left-over 2 (omega arith) e .1 ∙ simp t in omega arith)
+
+  pub unknown : 1 ≡ sort op → Unknown op ≡ commandOf bytes
+  unknown e = go (within 152 158 op) refl
+    where
+      go : (t : Bool) → within 152 158 op ≡ t → Unknown op ≡ commandOf bytes
+      go true t = absurd (let z : 1 ≡ 2 = left-over 1 (omega arith) e .1 ∙ simp t in omega arith)
+      go false t = sym (left-over 1 (omega arith) e .0 ∙ simp t)
+
+-- ---- decodeOf
+
+-- the payload, put into an array of zeros
+pub decoded : {c : Command} {h : Head} {n r : ℕ} (bytes : List ℕ) {d : List ℕ} → c ≡ commandOf bytes → h ≡ headed (headOf c) → n ≡ payloadSize c
+    → Put (take n (drop (h .size) bytes)) 0 (replicate 32 0) d r → _≡_ {A = Message} (record { command = c; payload = d }) (decodeOf bytes)
+unfolding decodeOf
+decoded {c} {h} {n} bytes {d} e f g x =
+    let p : d ≡ padded 32 (take (payloadSize c) (drop (length (headOf c)) bytes)) =
+    put-start x ∙ overwrite-zeros (take n (drop (h .size) bytes)) 32
+    ∙ ap₂ (λ (k m : ℕ). padded 32 (take k (drop m bytes))) g (ap (λ (x : Head). x .size) f) in
+    ap (λ (l : List ℕ). record { command = c; payload = l }) p
+    ∙ ap (λ (x : Command). record { command = x; payload = padded 32 (take (payloadSize x) (drop (length (headOf x)) bytes)) }) e
+
+-- ---- encodeOf
+
+pub encode-length : (m : Message) → length (m .payload) ≡ 32 → length (encodeOf m) ≡ length (headOf (m .command)) + payloadSize (m .command)
+unfolding encodeOf
+encode-length m h =
+    let s = small (m .command) in
+    length-append (headOf (m .command)) (payloadIn m)
+    ∙ ap (λ (n : ℕ). length (headOf (m .command)) + n) (length-take-le (payloadSize (m .command)) (m .payload) (omega (arith, s .1 .0)))
+
+-- what is put first is the command's bytes
+head-put : {h : Head} (l : List ℕ) → h ≡ headed l → take (h .size) (h .bytes) ≡ l
+head-put l e = ap (λ (h : Head). take (h .size) (h .bytes)) e ∙ take-append-seam l (replicate (5 - length l) 0)
+
+-- and the places in use follow
+pub written : (m : Message) {h : Head} {n r s : ℕ} {d d′ d″ : List ℕ} → h ≡ headed (headOf (m .command)) → n ≡ payloadSize (m .command)
+    → h .size ≤ length d → Put (take (h .size) (h .bytes)) 0 d d′ r → Put (take n (m .payload)) r d′ d″ s → Put (encodeOf m) 0 d d″ s
+unfolding encodeOf
+written m {h} {n} {r} {s} {d} {d′} {d″} e f room x y =
+    let head = headOf (m .command) in
+    let a : Put head 0 d d′ r = rw (head-put head e) at x in
+    let b : Put (payloadIn m) r d′ d″ s = rw f at y in
+    put-then a b (omega (arith, ap (λ (h : Head). h .size) e))

@@ -1,0 +1,3 @@
+pub mod VariantLaws
+pub mod LayoutLaws
+pub mod CommandTableLaws

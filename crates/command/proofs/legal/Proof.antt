@@ -1,0 +1,195 @@
+-- `command::legal` meets its contract: each arm knows the variant, and tests what its row says.
+-- Assumes nothing.
+use mathlib.Core.Path.{_≡_, sym, _∙_}
+use mathlib.Core.Bool.{true, _&&_}
+use mathlib.Core.List.{List, _∷_}
+use Prim.Native.Nat.{ℕ, _*_, _<_}
+use native.Mathlib.Omega.{arith}
+use lib.Dec.{leb}
+use lib.ListN.{getD, take}
+use mir.Syntax.{w8, w16}
+use mir.Val.{Fits}
+use mir.ValLaws.{toZ-ofZ}
+use borrow.Author.Needs.{needs}
+use borrow.Author.Tests.{le-leb, lt-leb}
+use Rattle.wire.specs.Lists.{fromTo, isByte, allBytes}
+use Rattle.wire.proofs.BoolLaws.{is-true, to-T}
+use Rattle.wire.proofs.ListsLaws.{all-take, bytes-true}
+use Rattle.command.specs.Layout.{storedCount}
+use Rattle.command.specs.CommandTable.{isLegal, speed, entryOf, legalOf}
+use Rattle.command.specs.declared.Command.{Command}
+use Rattle.command.specs.declared.Command.the-variants.{Duties, Song}
+use Rattle.command.specs.declared.Message.{Message}
+use Rattle.command.proofs.VariantLaws.{of-tags}
+use Rattle.command.proofs.CommandTableLaws.{legal-as, byte-legal, bytes-legal, song-legal, ids-legal, first-decides, second-decides, first-of-three, second-of-three, third-of-three}
+use Rattle.command.proofs.legal.Statement.{statement}
+use Rattle.command.proofs.legal.Tie as tie
+
+-- the array's elements are bytes
+any-notes : (c : tie.Start) (n : ℕ) → allBytes (take n (c .args .message .payload)) ≡ true
+any-notes c n =
+    let l = c .args .message .payload in
+    let each : (i : ℕ) → getD l i 0 < 256 = λ i. (let f : Fits w8 (getD l i 0) = search needs in omega arith) in
+    is-true (allBytes (take n l)) (all-take isByte n l (to-T (allBytes l) (bytes-true l each)))
+
+-- the first of a Drive's numbers, and of a Direct's
+velocity : (c : tie.After-is-speed) → c .is-speed .result ≡ isLegal speed (c .before .before .command2 .given .0 .0)
+velocity c =
+    let e = c .before .before .command2 .given in
+    rw (toZ-ofZ w16 (e .0 .0) (record { sfits = c .before .known-told2 .given .0 .1 })) at (c .is-speed .ensures)
+
+right : (c : tie.After-is-speed2) → c .is-speed2 .result ≡ isLegal speed (c .before .before .command3 .given .0 .0)
+right c =
+    let e = c .before .before .command3 .given in
+    rw (toZ-ofZ w16 (e .0 .0) (record { sfits = c .before .known-told3 .given .0 .1 })) at (c .is-speed2 .ensures)
+
+returns-2 : tie.Need-returns-2
+unfolding entryOf legalOf
+returns-2 c =
+    let first = c .before .before in
+    let e = first .before .before .command2 .given in
+    let r = rw (toZ-ofZ w16 (e .0 .1 .0) (record { sfits = first .before .known-told2 .given .1 .0 .1 })) at (c .is-radius .ensures) in
+    r ∙ second-decides (sym (velocity first) ∙ c .before .if1 .taken) ∙ legal-as (first .before .before .before .before .before .args .message) (e .1)
+
+returns-3 : tie.Need-returns-3
+unfolding entryOf legalOf
+returns-3 c =
+    let first = c .before in
+    let e = first .before .before .command2 .given in
+    velocity first ∙ first-decides _ (sym (velocity first) ∙ c .if1 .left)
+    ∙ legal-as (first .before .before .before .before .before .args .message) (e .1)
+
+returns-4 : tie.Need-returns-4
+unfolding entryOf legalOf
+returns-4 c =
+    let first = c .before .before in
+    let e = first .before .before .command3 .given in
+    let r = rw (toZ-ofZ w16 (e .0 .1 .0) (record { sfits = first .before .known-told3 .given .1 .0 .1 })) at (c .is-speed3 .ensures) in
+    r ∙ second-decides (sym (right first) ∙ c .before .if2 .taken) ∙ legal-as (first .before .before .before .before .before .args .message) (e .1)
+
+returns-5 : tie.Need-returns-5
+unfolding entryOf legalOf
+returns-5 c =
+    let first = c .before in
+    let e = first .before .before .command3 .given in
+    right first ∙ first-decides _ (sym (right first) ∙ c .if2 .left)
+    ∙ legal-as (first .before .before .before .before .before .args .message) (e .1)
+
+-- the three duties, as they are tested
+duties : (m : Message) {a b d : ℕ} → m .command ≡ Duties a b d → (leb a 128 && (leb b 128 && leb d 128)) ≡ legalOf m
+unfolding entryOf legalOf
+duties m {a} {b} {d} e = bytes-legal 128 a b d ∙ legal-as m e
+
+returns-7 : tie.Need-returns-7
+returns-7 c =
+    let e = c .before .before .before .command5 .given in
+    third-of-three _ (le-leb _ _ (c .before .if3 .taken)) (le-leb _ _ (c .if4 .taken)) ∙ duties (c .before .before .before .before .before .before .args .message) (e .1)
+
+returns-8 : tie.Need-returns-8
+returns-8 c =
+    let e = c .before .before .before .command5 .given in
+    second-of-three _ (le-leb _ _ (c .before .if3 .taken)) (lt-leb _ _ (c .if4 .left)) ∙ duties (c .before .before .before .before .before .before .args .message) (e .1)
+
+returns-9 : tie.Need-returns-9
+returns-9 c =
+    let e = c .before .before .command5 .given in
+    first-of-three _ (lt-leb _ _ (c .if3 .left)) ∙ duties (c .before .before .before .before .before .args .message) (e .1)
+
+returns-10 : tie.Need-returns-10
+unfolding entryOf legalOf
+returns-10 c =
+    let e = c .before .command6 .given in
+    let f : Fits w8 (e .0 .0) = search needs in
+    let g : Fits w8 (e .0 .1 .0) = search needs in
+    let h : Fits w8 (e .0 .1 .1 .0) = search needs in
+    let d : (leb (e .0 .0) 255 && (leb (e .0 .1 .0) 255 && leb (e .0 .1 .1 .0) 255)) ≡ true =
+    simp (le-leb (e .0 .0) 255 (omega arith), le-leb (e .0 .1 .0) 255 (omega arith), le-leb (e .0 .1 .1 .0) 255 (omega arith)) in
+    sym d ∙ bytes-legal 255 _ _ _ ∙ legal-as (c .before .before .before .before .args .message) (e .1)
+
+returns-12 : tie.Need-returns-12
+unfolding entryOf legalOf
+returns-12 c =
+    let e = c .before .command8 .given in
+    let f : Fits w8 (e .0 .0) = search needs in
+    sym (le-leb (e .0 .0) 255 (omega arith)) ∙ byte-legal 255 _ ∙ legal-as (c .before .before .before .before .args .message) (e .1)
+
+-- a song's number and length, as they are tested
+song : (c : tie.Start) {number notes : ℕ} → c .args .message .command ≡ Song number notes → (leb number 15 && (leb 1 notes && leb notes 16)) ≡ legalOf (c .args .message)
+unfolding entryOf legalOf
+song c {number} {notes} e =
+    let n = 2 * storedCount notes in
+    song-legal number notes (take n (c .args .message .payload)) (any-notes c n) ∙ legal-as (c .args .message) e
+
+returns-13 : tie.Need-returns-13
+returns-13 c =
+    let e = c .before .before .before .command9 .given in
+    third-of-three _ (le-leb _ _ (c .before .if5 .taken)) (le-leb _ _ (c .if6 .taken)) ∙ song (c .before .before .before .before .before .before) (e .1)
+
+returns-14 : tie.Need-returns-14
+returns-14 c =
+    let e = c .before .before .before .command9 .given in
+    second-of-three _ (le-leb _ _ (c .before .if5 .taken)) (lt-leb _ _ (c .if6 .left)) ∙ song (c .before .before .before .before .before .before) (e .1)
+
+returns-15 : tie.Need-returns-15
+returns-15 c =
+    let e = c .before .before .command9 .given in
+    first-of-three _ (lt-leb _ _ (c .if5 .left)) ∙ song (c .before .before .before .before .before) (e .1)
+
+-- the variants of the last arm have no data
+returns-23 : tie.Need-returns-23
+unfolding entryOf legalOf
+returns-23 c =
+    let m = c .before .before .args .message in
+    let tags : List ℕ = 0 ∷ fromTo 2 9 in
+    sym (is-true (legalOf m) (of-tags (λ (x : Command). legalOf (record { command = x; payload = m .payload })) tags (λ a b d v w. tt) (m .command) (c .match .keys17)))
+
+pub legal-spec : {M : Type 1} → statement M
+unfolding entryOf legalOf
+legal-spec =
+    tie.close
+    (tie.spec
+    (λ c. search needs)
+    (λ c. search needs)
+    (λ c κs. search needs)
+    (λ c κs. search needs)
+    (λ c. search needs)
+    (λ c κs. search needs)
+    (λ c κs. search needs)
+    (λ c. search needs)
+    (λ c. search needs)
+    (λ c. search needs)
+    (λ c. search needs)
+    (λ c. search needs)
+    (λ c. search needs)
+    (λ c. search needs)
+    (λ c. search needs)
+    (λ c. search needs)
+    (λ c κs. search needs)
+    (λ c. search needs)
+    (λ c κs. search needs)
+    (λ c. search needs)
+    (λ c. search needs)
+    (λ c. search needs)
+    (λ c. byte-legal 11 _ ∙ legal-as (c .before .before .before .before .args .message) (c .before .command .given .1))
+    returns-2
+    returns-3
+    returns-4
+    returns-5
+    (λ c. byte-legal 7 _ ∙ legal-as (c .before .before .before .before .args .message) (c .before .command4 .given .1))
+    returns-7
+    returns-8
+    returns-9
+    returns-10
+    (λ c. byte-legal 7 _ ∙ legal-as (c .before .before .before .before .args .message) (c .before .command7 .given .1))
+    returns-12
+    returns-13
+    returns-14
+    returns-15
+    (λ c. byte-legal 15 _ ∙ legal-as (c .before .before .before .before .args .message) (c .before .command10 .given .1))
+    (λ c. byte-legal 42 _ ∙ legal-as (c .before .before .before .before .args .message) (c .before .command11 .given .1))
+    (λ c. c .is-list .ensures ∙ ids-legal _ _ ∙ legal-as (c .before .before .before .before .before .args .message) (c .before .before .command12 .given .1))
+    (λ c. c .is-stream .ensures ∙ ids-legal _ _ ∙ legal-as (c .before .before .before .before .before .args .message) (c .before .before .command13 .given .1))
+    (λ c. byte-legal 1 _ ∙ legal-as (c .before .before .before .before .args .message) (c .before .command14 .given .1))
+    (λ c. legal-as (c .before .before .before .args .message) (c .enum-told .given .1))
+    (λ c. legal-as (c .before .before .before .args .message) (c .enum-told2 .given .1))
+    returns-23)

@@ -1,0 +1,161 @@
+-- The command table (document 01, 'Commands at their last byte'): which modes a command is for, and which data are legal.
+-- Assumes nothing.
+use mathlib.Core.Bool.{Bool, true, false, cond, _&&_, _||_}
+use mathlib.Core.List.{List, [], _∷_, map}
+use Prim.Native.Nat.{ℕ}
+use lib.Dec.{eqb}
+use lib.IntN.{ℤ, pos, negℤ}
+use lib.Signed.{leZ}
+use Rattle.wire.specs.Lists.{among, allBytes}
+use Rattle.wire.specs.Replies.{Reply, replyOf}
+use Rattle.packet.specs.Answers.{listableOf, streamableOf}
+use Rattle.command.specs.Layout.{valueOf, formOf, opcodeOf, refusalOf, payloadIn, encodeOf}
+use Rattle.command.specs.declared.Command.{Command}
+use Rattle.command.specs.declared.Message.{Message}
+
+-- ---- the column of modes, coded as packet 35 sends them: Off 0, Passive 1, Safe 2, Full 3
+
+abbrev allFour : List ℕ
+allFour = 0 ∷ 1 ∷ 2 ∷ 3 ∷ []
+
+abbrev P : List ℕ
+P = 1 ∷ []
+
+abbrev PSF : List ℕ
+PSF = 1 ∷ 2 ∷ 3 ∷ []
+
+abbrev SF : List ℕ
+SF = 2 ∷ 3 ∷ []
+
+-- ---- the column of legal data
+
+-- from a first number to a last one
+pub record Range : Type 0 where
+  pub first : ℤ
+  pub last : ℤ
+
+infix 60 _to_
+abbrev pub _to_ : ℤ → ℤ → Range
+a to b = record { first = a; last = b }
+
+unfoldable pub isIn : Range → ℤ → Bool
+isIn r v = leZ (r .first) v && leZ v (r .last)
+
+-- one of the ranges
+unfoldable pub isLegal : List Range → ℤ → Bool
+isLegal [] v = false
+isLegal (r ∷ rs) v = isIn r v || isLegal rs v
+
+-- the legal values of each of a command's numbers, and the rule for the payload in use
+pub record LegalData : Type 0 where
+  pub numbers : List (List Range)
+  pub payload : List ℕ → Bool
+
+-- every number has a legal value, and there are as many of them
+abbrev pub allLegal : List (List Range) → List ℤ → Bool
+allLegal [] [] = true
+allLegal [] (v ∷ vs) = false
+allLegal (rs ∷ rss) [] = false
+allLegal (rs ∷ rss) (v ∷ vs) = isLegal rs v && allLegal rss vs
+
+abbrev minus : ℕ → ℤ
+minus n = negℤ (pos n)
+
+-- 0 to n
+abbrev pub upTo : ℕ → List Range
+upTo n = (pos 0 to pos n) ∷ []
+
+abbrev pub anyByte : List Range
+anyByte = upTo 255
+
+-- -500 to 500
+abbrev pub speed : List Range
+speed = (minus 500 to pos 500) ∷ []
+
+-- -2000 to 2000 but not 0, or 32767, or -32768
+abbrev pub radius : List Range
+radius = (minus 2000 to minus 1) ∷ (pos 1 to pos 2000) ∷ (pos 32767 to pos 32767) ∷ (minus 32768 to minus 32768) ∷ []
+
+-- a payload of any bytes; a command that uses none has the empty one
+abbrev numbers : List (List Range) → LegalData
+numbers rss = record { numbers = rss; payload = allBytes }
+
+abbrev none : LegalData
+none = numbers []
+
+-- ---- the table
+
+-- a row: its opcodes, its modes, and the legal data of each opcode
+pub record Row : Type 0 where
+  pub opcodes : List ℕ
+  pub modes : List ℕ
+  pub legal : List LegalData
+
+abbrev row : List ℕ → List ℕ → LegalData → Row
+row ops modes d = record { opcodes = ops; modes = modes; legal = map (λ op. d) ops }
+
+-- document 01's rows, in its order
+abbrev pub commandTable : List Row
+commandTable =
+    row (128 ∷ []) allFour none
+    ∷ row (129 ∷ []) PSF (numbers (upTo 11 ∷ []))
+    ∷ row (130 ∷ []) P none
+    ∷ row (131 ∷ 132 ∷ []) PSF none
+    ∷ row (133 ∷ 136 ∷ []) SF none
+    ∷ row (134 ∷ 135 ∷ 143 ∷ []) PSF none
+    -- velocity, radius
+    ∷ row (137 ∷ []) SF (numbers (speed ∷ radius ∷ []))
+    -- right, left
+    ∷ row (145 ∷ []) SF (numbers (speed ∷ speed ∷ []))
+    ∷ row (138 ∷ []) SF (numbers (upTo 7 ∷ []))
+    -- for driver 2, 1, 0
+    ∷ row (144 ∷ []) SF (numbers (upTo 128 ∷ upTo 128 ∷ upTo 128 ∷ []))
+    ∷ row (139 ∷ []) SF (numbers (anyByte ∷ anyByte ∷ anyByte ∷ []))
+    ∷ record { opcodes = 147 ∷ 151 ∷ []; modes = SF; legal = numbers (upTo 7 ∷ []) ∷ numbers (anyByte ∷ []) ∷ [] }
+    -- number, L, any notes
+    ∷ row (140 ∷ []) PSF (numbers (upTo 15 ∷ ((pos 1 to pos 16) ∷ []) ∷ []))
+    ∷ row (141 ∷ []) SF (numbers (upTo 15 ∷ []))
+    ∷ row (142 ∷ []) PSF (numbers (upTo 42 ∷ []))
+    -- N, ids by 149's rule; by 148's
+    ∷ row (149 ∷ []) PSF (record { numbers = upTo 16 ∷ []; payload = listableOf })
+    ∷ row (148 ∷ []) PSF (record { numbers = upTo 16 ∷ []; payload = streamableOf })
+    ∷ row (150 ∷ []) PSF (numbers (upTo 1 ∷ []))
+    ∷ []
+
+-- what a row says of an opcode
+pub record Entry : Type 0 where
+  pub modes : List ℕ
+  pub legal : LegalData
+
+-- no mode, and no legal data
+abbrev pub noEntry : Entry
+noEntry = record { modes = []; legal = record { numbers = []; payload = λ bytes. false } }
+
+abbrev inRow : List ℕ → List ℕ → List LegalData → ℕ → Entry → Entry
+inRow modes [] ds op other = other
+inRow modes (k ∷ ks) [] op other = other
+inRow modes (k ∷ ks) (d ∷ ds) op other = cond (eqb op k) (record { modes = modes; legal = d }) (inRow modes ks ds op other)
+
+abbrev pub look : List Row → ℕ → Entry
+look [] op = noEntry
+look (r ∷ rs) op = inRow (r .modes) (r .opcodes) (r .legal) op (look rs op)
+
+-- a command's entry; a variant that is refused as such has none, whatever its opcode
+unfoldable pub entryOf : Command → Entry
+entryOf c = cond (eqb (refusalOf c) 0) (look commandTable (opcodeOf c)) noEntry
+
+-- ---- what the contracts cite
+
+-- the column of modes
+unfoldable pub allowedOf : Command → ℕ → Bool
+allowedOf c mode = among (entryOf c .modes) mode
+
+-- the column of legal data
+unfoldable pub legalOf : Message → Bool
+legalOf m =
+    let d = entryOf (m .command) .legal in
+    allLegal (d .numbers) (map valueOf (formOf (m .command) .items)) && d .payload (payloadIn m)
+
+-- what the writer gives back, by the room in the buffer: 4 for anything but an offered command with legal data, then 7, then the frame
+abbrev pub writeReply : Message → ℕ → Reply
+writeReply m = replyOf (legalOf m) (encodeOf m)

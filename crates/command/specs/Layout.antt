@@ -1,0 +1,169 @@
+-- A command as bytes: how it is sent, and what a whole frame says (document 01, 'Commands at their last byte').
+-- Assumes nothing.
+use mathlib.Core.Bool.{cond}
+use mathlib.Core.List.{List, [], _∷_, _++_}
+use Prim.Native.Nat.{ℕ, _*_}
+use lib.Dec.{eqb}
+use lib.IntN.{ℤ, pos}
+use lib.ListN.{length, getD, take, drop}
+use Rattle.wire.specs.Lists.{within, padded}
+use Rattle.wire.specs.Sixteen.{be16, read16Of}
+use Rattle.frame.specs.Push.{legalCount}
+use Rattle.command.specs.declared.Command.{Command}
+use Rattle.command.specs.declared.Command.the-variants.{Start, Baud, Control, Safe, Full, Power, Demo, Spot, Cover, Dock, Drive, Direct, Drivers, Duties, Leds, Outputs, Infrared, Song, Play, Sensors, QueryList, Stream, Pause, Unknown, NotOffered}
+use Rattle.command.specs.declared.Message.{Message}
+use Rattle.command.specs.declared.Head.{Head}
+
+-- ---- the form of a command
+
+-- one of a command's numbers: a byte, or a word of sixteen bits
+pub data Item : Type 0 where
+  byte : ℕ → Item
+  word : ℤ → Item
+
+abbrev pub valueOf : Item → ℤ
+valueOf (byte n) = pos n
+valueOf (word v) = v
+
+-- how it is sent
+abbrev pub sentAs : Item → List ℕ
+sentAs (byte n) = n ∷ []
+sentAs (word v) = be16 v
+
+abbrev pub allSent : List Item → List ℕ
+allSent [] = []
+allSent (i ∷ is) = sentAs i ++ allSent is
+
+-- a command's opcode, its numbers in the order in which they are sent, how many bytes of the payload follow them, and the number by which
+-- a variant is refused as such, which is 0 for an offered command
+pub record Form : Type 0 where
+  pub opcode : ℕ
+  pub items : List Item
+  pub uses : ℕ
+  pub refusal : ℕ
+
+abbrev offered : ℕ → List Item → Form
+offered op items = record { opcode = op; items = items; uses = 0; refusal = 0 }
+
+abbrev followed : ℕ → List Item → ℕ → Form
+followed op items n = record { opcode = op; items = items; uses = n; refusal = 0 }
+
+abbrev refusedAs : ℕ → ℕ → Form
+refusedAs n op = record { opcode = op; items = []; uses = 0; refusal = n }
+
+-- the notes or ids that are stored: past a legal count there are none
+abbrev pub storedCount : ℕ → ℕ
+storedCount n = cond (legalCount n) n 0
+
+-- in the order of document 01's rows. A note is two bytes. 1 is unknown, 2 not offered.
+abbrev pub formOf : Command → Form
+formOf Start = offered 128 []
+formOf (Baud code) = offered 129 (byte code ∷ [])
+formOf Control = offered 130 []
+formOf Safe = offered 131 []
+formOf Full = offered 132 []
+formOf Power = offered 133 []
+formOf Demo = offered 136 []
+formOf Spot = offered 134 []
+formOf Cover = offered 135 []
+formOf Dock = offered 143 []
+formOf (Drive velocity radius) = offered 137 (word velocity ∷ word radius ∷ [])
+formOf (Direct right left) = offered 145 (word right ∷ word left ∷ [])
+formOf (Drivers bits) = offered 138 (byte bits ∷ [])
+formOf (Duties driver2 driver1 driver0) = offered 144 (byte driver2 ∷ byte driver1 ∷ byte driver0 ∷ [])
+formOf (Leds bits color intensity) = offered 139 (byte bits ∷ byte color ∷ byte intensity ∷ [])
+formOf (Outputs bits) = offered 147 (byte bits ∷ [])
+formOf (Infrared code) = offered 151 (byte code ∷ [])
+formOf (Song number notes) = followed 140 (byte number ∷ byte notes ∷ []) (2 * storedCount notes)
+formOf (Play number) = offered 141 (byte number ∷ [])
+formOf (Sensors id) = offered 142 (byte id ∷ [])
+formOf (QueryList ids) = followed 149 (byte ids ∷ []) (storedCount ids)
+formOf (Stream ids) = followed 148 (byte ids ∷ []) (storedCount ids)
+formOf (Pause on) = offered 150 (byte on ∷ [])
+formOf (Unknown op) = refusedAs 1 op
+formOf (NotOffered op) = refusedAs 2 op
+
+abbrev pub opcodeOf : Command → ℕ
+opcodeOf c = formOf c .opcode
+
+-- document 01's number for a variant that is refused as such: 1 unknown, 2 not offered; 0 for an offered command
+abbrev pub refusalOf : Command → ℕ
+refusalOf c = formOf c .refusal
+
+-- how many places of the payload a command uses
+abbrev pub payloadSize : Command → ℕ
+payloadSize c = formOf c .uses
+
+-- ---- sending
+
+-- a frame's bytes before the payload
+abbrev pub headOf : Command → List ℕ
+headOf c = opcodeOf c ∷ allSent (formOf c .items)
+
+-- as the code has them
+abbrev pub headed : List ℕ → Head
+headed bytes = record { bytes = padded 5 bytes; size = length bytes }
+
+-- the places in use
+abbrev pub payloadIn : Message → List ℕ
+payloadIn m = take (payloadSize (m .command)) (m .payload)
+
+-- a message's frame
+unfoldable pub encodeOf : Message → List ℕ
+encodeOf m = headOf (m .command) ++ payloadIn m
+
+-- ---- reading
+
+-- what a frame of an opcode says, by its first four data bytes
+pub record Reading : Type 0 where
+  pub opcode : ℕ
+  pub says : ℕ → ℕ → ℕ → ℕ → Command
+
+abbrev reads : ℕ → (ℕ → ℕ → ℕ → ℕ → Command) → Reading
+reads op f = record { opcode = op; says = f }
+
+-- in the order of document 01's rows
+abbrev pub readings : List Reading
+readings =
+    reads 128 (λ a b c d. Start)
+    ∷ reads 129 (λ a b c d. Baud a)
+    ∷ reads 130 (λ a b c d. Control)
+    ∷ reads 131 (λ a b c d. Safe)
+    ∷ reads 132 (λ a b c d. Full)
+    ∷ reads 133 (λ a b c d. Power)
+    ∷ reads 136 (λ a b c d. Demo)
+    ∷ reads 134 (λ a b c d. Spot)
+    ∷ reads 135 (λ a b c d. Cover)
+    ∷ reads 143 (λ a b c d. Dock)
+    ∷ reads 137 (λ a b c d. Drive (read16Of a b) (read16Of c d))
+    ∷ reads 145 (λ a b c d. Direct (read16Of a b) (read16Of c d))
+    ∷ reads 138 (λ a b c d. Drivers a)
+    ∷ reads 144 (λ a b c d. Duties a b c)
+    ∷ reads 139 (λ a b c d. Leds a b c)
+    ∷ reads 147 (λ a b c d. Outputs a)
+    ∷ reads 151 (λ a b c d. Infrared a)
+    ∷ reads 140 (λ a b c d. Song a b)
+    ∷ reads 141 (λ a b c d. Play a)
+    ∷ reads 142 (λ a b c d. Sensors a)
+    ∷ reads 149 (λ a b c d. QueryList a)
+    ∷ reads 148 (λ a b c d. Stream a)
+    ∷ reads 150 (λ a b c d. Pause a)
+    ∷ []
+
+-- 152 to 158 are not offered, and what is left is unknown
+abbrev pub otherwise : ℕ → Command
+otherwise op = cond (within 152 158 op) (NotOffered op) (Unknown op)
+
+abbrev pub look : List Reading → ℕ → ℕ → ℕ → ℕ → ℕ → Command
+look [] op a b c d = otherwise op
+look (r ∷ rs) op a b c d = cond (eqb op (r .opcode)) (r .says a b c d) (look rs op a b c d)
+
+unfoldable pub commandOf : List ℕ → Command
+commandOf bytes = look readings (getD bytes 0 0) (getD bytes 1 0) (getD bytes 2 0) (getD bytes 3 0) (getD bytes 4 0)
+
+-- the message of a frame: its command, and the payload that follows the command's bytes, with 0 in the places that are not in use. Past a legal
+-- count, where the papers leave it free, no place is in use.
+unfoldable pub decodeOf : List ℕ → Message
+decodeOf bytes =
+    let c = commandOf bytes in
+    record { command = c; payload = padded 32 (take (payloadSize c) (drop (length (headOf c)) bytes)) }

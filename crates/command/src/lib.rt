@@ -1,0 +1,390 @@
+// What a whole frame says, and the host-side writer of commands (document 01, 'Commands at their last byte').
+ghost use mathlib.Core.Path.{_≡_};
+ghost use mathlib.Core.Bool.{_&&_};
+ghost use mathlib.Core.List.{[], _∷_, _++_};
+ghost use lib.Dec.{leb};
+ghost use lib.ListN.{length, take};
+ghost use Rattle.wire.specs.Lists.{within};
+ghost use Rattle.wire.specs.Sixteen.{be16};
+ghost use Rattle.wire.specs.Replies.{Replied};
+ghost use Rattle.packet.specs.Answers.{listableOf, streamableOf};
+ghost use Rattle.command.specs.Layout.{headOf, headed, payloadSize, storedCount, commandOf, decodeOf};
+ghost use Rattle.command.specs.CommandTable.{isIn, _to_, isLegal, speed, radius, legalOf, allowedOf, writeReply};
+use wire::Sent;
+
+// A command, its numbers as a host thinks of them. Notes and ids, which an enum can't hold, stand beside it in a message.
+pub enum Command {
+    Start,
+    // A code for the serial speed.
+    Baud(u8),
+    Control,
+    Safe,
+    Full,
+    Power,
+    Demo,
+    Spot,
+    Cover,
+    Dock,
+    Drive {
+        velocity: i16,
+        radius: i16,
+    },
+    Direct {
+        right: i16,
+        left: i16,
+    },
+    // A bit for each driver output.
+    Drivers(u8),
+    // In the order in which they are sent.
+    Duties {
+        driver2: u8,
+        driver1: u8,
+        driver0: u8,
+    },
+    Leds {
+        bits: u8,
+        color: u8,
+        intensity: u8,
+    },
+    Outputs(u8),
+    Infrared(u8),
+    // The length is in notes; a note is two bytes of the payload.
+    Song {
+        number: u8,
+        length: u8,
+    },
+    Play(u8),
+    Sensors(u8),
+    // Document 01: List. The number of the ids, which stand in the payload.
+    QueryList(u8),
+    Stream(u8),
+    Pause(u8),
+    // An opcode that is not in the frame table.
+    Unknown(u8),
+    // 152 to 158.
+    NotOffered(u8),
+}
+
+// A command with its notes or ids, in the first places of the payload.
+pub struct Message {
+    pub command: Command,
+    pub payload: [u8; 32],
+}
+
+// The bytes of a frame before its payload: the opcode and the command's numbers, in the first places.
+struct Head {
+    bytes: [u8; 5],
+    size: usize,
+}
+
+const LEGAL_COUNT: u8 = 16;
+
+// How many of a count's notes or ids are there: past a legal count none is stored.
+fn stored_count(count: u8) -> usize
+    ensures { λ r. ⌜ r ≡ storedCount count ⌝ }
+{
+    if count > LEGAL_COUNT {
+        return 0;
+    }
+    count as usize
+}
+
+// How many bytes of the payload a command uses.
+fn payload_size(command: Command) -> usize
+    ensures { λ r. ⌜ r ≡ payloadSize command ⌝ }
+{
+    match command {
+        Command::Song { number: _, length } => 2 * stored_count(length),
+        Command::QueryList(ids) => stored_count(ids),
+        Command::Stream(ids) => stored_count(ids),
+        _ => 0,
+    }
+}
+
+// The bytes before the payload, of a command of no numbers, of one to three bytes, and of two sixteen-bit numbers.
+fn head0(op: u8) -> Head
+    ensures { λ r. ⌜ r ≡ headed (op ∷ []) ⌝ }
+{
+    Head {
+        bytes: [op, 0, 0, 0, 0],
+        size: 1,
+    }
+}
+
+fn head1(op: u8, a: u8) -> Head
+    ensures { λ r. ⌜ r ≡ headed (op ∷ a ∷ []) ⌝ }
+{
+    Head {
+        bytes: [op, a, 0, 0, 0],
+        size: 2,
+    }
+}
+
+fn head2(op: u8, a: u8, b: u8) -> Head
+    ensures { λ r. ⌜ r ≡ headed (op ∷ a ∷ b ∷ []) ⌝ }
+{
+    Head {
+        bytes: [op, a, b, 0, 0],
+        size: 3,
+    }
+}
+
+fn head3(op: u8, a: u8, b: u8, c: u8) -> Head
+    ensures { λ r. ⌜ r ≡ headed (op ∷ a ∷ b ∷ c ∷ []) ⌝ }
+{
+    Head {
+        bytes: [op, a, b, c, 0],
+        size: 4,
+    }
+}
+
+fn head_words(op: u8, a: i16, b: i16) -> Head
+    ensures { λ r. ⌜ r ≡ headed (op ∷ (be16 a ++ be16 b)) ⌝ }
+{
+    Head {
+        bytes: [
+            op,
+            wire::high16(a),
+            wire::low16(a),
+            wire::high16(b),
+            wire::low16(b),
+        ],
+        size: 5,
+    }
+}
+
+fn head_of(command: Command) -> Head
+    ensures { λ r. ⌜ r ≡ headed (headOf command) ⌝ }
+{
+    match command {
+        Command::Start => head0(128),
+        Command::Baud(code) => head1(129, code),
+        Command::Control => head0(130),
+        Command::Safe => head0(131),
+        Command::Full => head0(132),
+        Command::Power => head0(133),
+        Command::Demo => head0(136),
+        Command::Spot => head0(134),
+        Command::Cover => head0(135),
+        Command::Dock => head0(143),
+        Command::Drive { velocity, radius } => head_words(137, velocity, radius),
+        Command::Direct { right, left } => head_words(145, right, left),
+        Command::Drivers(bits) => head1(138, bits),
+        Command::Duties {
+            driver2,
+            driver1,
+            driver0,
+        } => head3(144, driver2, driver1, driver0),
+        Command::Leds {
+            bits,
+            color,
+            intensity,
+        } => head3(139, bits, color, intensity),
+        Command::Outputs(bits) => head1(147, bits),
+        Command::Infrared(code) => head1(151, code),
+        Command::Song { number, length } => head2(140, number, length),
+        Command::Play(number) => head1(141, number),
+        Command::Sensors(id) => head1(142, id),
+        Command::QueryList(ids) => head1(149, ids),
+        Command::Stream(ids) => head1(148, ids),
+        Command::Pause(on) => head1(150, on),
+        Command::Unknown(op) => head0(op),
+        Command::NotOffered(op) => head0(op),
+    }
+}
+
+// The command that a frame's bytes say.
+fn command_of(bytes: [u8; 35]) -> Command
+    ensures { λ r. ⌜ r ≡ commandOf bytes ⌝ }
+{
+    let op = bytes[0];
+    let a = bytes[1];
+    let b = bytes[2];
+    let c = bytes[3];
+    let d = bytes[4];
+    match op {
+        128 => Command::Start,
+        129 => Command::Baud(a),
+        130 => Command::Control,
+        131 => Command::Safe,
+        132 => Command::Full,
+        133 => Command::Power,
+        136 => Command::Demo,
+        134 => Command::Spot,
+        135 => Command::Cover,
+        143 => Command::Dock,
+        137 => Command::Drive {
+            velocity: wire::read16(a, b),
+            radius: wire::read16(c, d),
+        },
+        145 => Command::Direct {
+            right: wire::read16(a, b),
+            left: wire::read16(c, d),
+        },
+        138 => Command::Drivers(a),
+        144 => Command::Duties {
+            driver2: a,
+            driver1: b,
+            driver0: c,
+        },
+        139 => Command::Leds {
+            bits: a,
+            color: b,
+            intensity: c,
+        },
+        147 => Command::Outputs(a),
+        151 => Command::Infrared(a),
+        140 => Command::Song {
+            number: a,
+            length: b,
+        },
+        141 => Command::Play(a),
+        142 => Command::Sensors(a),
+        149 => Command::QueryList(a),
+        148 => Command::Stream(a),
+        150 => Command::Pause(a),
+        152..=158 => Command::NotOffered(op),
+        _ => Command::Unknown(op),
+    }
+}
+
+// The message of a complete frame. What it gives past a legal count is free in the papers: it is a payload of which no place is in use, all 0.
+pub fn decode(bytes: [u8; 35]) -> Message
+    ensures { λ r. ⌜ r ≡ decodeOf bytes ⌝ }
+{
+    let command = command_of(bytes);
+    let head = head_of(command);
+    let size = payload_size(command);
+    let mut payload = [0u8; 32];
+    wire::put_part(&bytes, head.size, size, &mut payload, 0);
+    Message { command, payload }
+}
+
+// From a first number to a last one.
+fn is_in(first: i16, last: i16, v: i16) -> bool
+    ensures { λ r. ⌜ r ≡ isIn (first to last) v ⌝ }
+{
+    first <= v && v <= last
+}
+
+fn is_speed(v: i16) -> bool
+    ensures { λ r. ⌜ r ≡ isLegal speed v ⌝ }
+{
+    is_in(-500, 500, v)
+}
+
+fn is_radius(v: i16) -> bool
+    ensures { λ r. ⌜ r ≡ isLegal radius v ⌝ }
+{
+    is_in(-2000, -1, v)
+        || (is_in(1, 2000, v) || (is_in(32767, 32767, v) || is_in(-32768, -32768, v)))
+}
+
+// 149's rule, for the ids in use.
+fn is_list(ids: u8, payload: [u8; 32]) -> bool
+    ensures { λ r. ⌜ r ≡ (leb ids 16 && listableOf (take (storedCount ids) payload)) ⌝ }
+{
+    let n = stored_count(ids);
+    ids <= LEGAL_COUNT && packet::listable(&payload[0..n])
+}
+
+// 148's.
+fn is_stream(ids: u8, payload: [u8; 32]) -> bool
+    ensures { λ r. ⌜ r ≡ (leb ids 16 && streamableOf (take (storedCount ids) payload)) ⌝ }
+{
+    let n = stored_count(ids);
+    ids <= LEGAL_COUNT && packet::streamable(&payload[0..n])
+}
+
+// Whether the data are legal. What it gives for a variant that is refused as such is free in the papers: none has legal data.
+pub fn legal(message: Message) -> bool
+    ensures { λ r. ⌜ r ≡ legalOf message ⌝ }
+{
+    let command = message.command;
+    let payload = message.payload;
+    match command {
+        Command::Baud(code) => code <= 11,
+        Command::Drive { velocity, radius } => is_speed(velocity) && is_radius(radius),
+        Command::Direct { right, left } => is_speed(right) && is_speed(left),
+        Command::Drivers(bits) => bits <= 7,
+        Command::Duties {
+            driver2,
+            driver1,
+            driver0,
+        } => driver2 <= 128 && (driver1 <= 128 && driver0 <= 128),
+        // The bytes are named, for what their type says of them.
+        Command::Leds {
+            bits: _bits,
+            color: _color,
+            intensity: _intensity,
+        } => true,
+        Command::Outputs(bits) => bits <= 7,
+        Command::Infrared(_code) => true,
+        Command::Song { number, length } => number <= 15 && (1 <= length && length <= LEGAL_COUNT),
+        Command::Play(number) => number <= 15,
+        Command::Sensors(id) => id <= 42,
+        Command::QueryList(ids) => is_list(ids, payload),
+        Command::Stream(ids) => is_stream(ids, payload),
+        Command::Pause(on) => on <= 1,
+        Command::Unknown(_) => false,
+        Command::NotOffered(_) => false,
+        _ => true,
+    }
+}
+
+// The modes, as packet 35 sends them; Off is 0.
+const PASSIVE: u8 = 1;
+
+const SAFE: u8 = 2;
+
+const FULL: u8 = 3;
+
+// A mode from this one up.
+fn from_mode(first: u8, mode: u8) -> bool
+    ensures { λ r. ⌜ r ≡ within first 3 mode ⌝ }
+{
+    first <= mode && mode <= FULL
+}
+
+// Whether a command is for this mode. What it gives for a variant that is refused as such is free in the papers: it is for none.
+pub fn allowed(command: Command, mode: u8) -> bool
+    ensures { λ r. ⌜ r ≡ allowedOf command mode ⌝ }
+{
+    match command {
+        Command::Start => mode <= FULL,
+        Command::Control => mode == PASSIVE,
+        Command::Power
+        | Command::Demo
+        | Command::Drive { .. }
+        | Command::Direct { .. }
+        | Command::Drivers(_)
+        | Command::Duties { .. }
+        | Command::Leds { .. }
+        | Command::Outputs(_)
+        | Command::Infrared(_)
+        | Command::Play(_) => from_mode(SAFE, mode),
+        Command::Unknown(_) | Command::NotOffered(_) => false,
+        _ => from_mode(PASSIVE, mode),
+    }
+}
+
+// The host-side writer: 4 for anything that isn't an offered command with legal data, then 7 for a frame longer than the buffer, then the frame.
+// It asks no mode.
+pub fn write(message: Message, buffer: &mut [u8]) -> Sent
+    ensures { λ r. ⌜ Replied (writeReply message) (now (buffer .entry)) (now (buffer .exit)) r ⌝ }
+{
+    if !legal(message) {
+        return wire::refuse(wire::NOT_LEGAL);
+    }
+    let command = message.command;
+    let payload = message.payload;
+    let head = head_of(command);
+    let bytes = head.bytes;
+    let size = payload_size(command);
+    if head.size + size > buffer.len() {
+        return wire::refuse(wire::NO_ROOM);
+    }
+    let next = wire::put_part(&bytes, 0, head.size, buffer, 0);
+    let length = wire::put_part(&payload, 0, size, buffer, next);
+    Sent { number: 0, length }
+}
