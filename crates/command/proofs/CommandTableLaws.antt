@@ -22,7 +22,7 @@ unfolding allowedOf
 allowed-as mode e m = ap (λ (l : List ℕ). among l mode) (sym m) ∙ ap (λ (c : Command). among (entryOf c .modes) mode) (sym e)
 
 -- the modes of a row as the code tests them, by one test over all bytes
-alike : (f g : ℕ → Bool) → T (allFrom (λ m. Bool·beq (f m) (g m)) 0 256) → (m : ℕ) → m < 256 → f m ≡ g m
+pub alike : (f g : ℕ → Bool) → T (allFrom (λ m. Bool·beq (f m) (g m)) 0 256) → (m : ℕ) → m < 256 → f m ≡ g m
 alike f g t m h = beq-eq (f m) (g m) (from (λ m. Bool·beq (f m) (g m)) 0 256 t m zero-le (omega arith))
 
 pub from-off : (m : ℕ) → m < 256 → leb m 3 ≡ among (0 ∷ 1 ∷ 2 ∷ 3 ∷ []) m

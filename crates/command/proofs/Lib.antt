@@ -1,3 +1,6 @@
 pub mod VariantLaws
 pub mod LayoutLaws
 pub mod CommandTableLaws
+pub mod FitLaws
+pub mod RoundTripLaws
+pub mod CommandsProved

@@ -1,2 +1,4 @@
 pub mod Layout
 pub mod CommandTable
+pub mod Cases
+pub mod Commands

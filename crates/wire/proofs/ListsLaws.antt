@@ -95,6 +95,11 @@ module _ (f : ℕ → Bool) where
       let s = and-yes (f x) (all f xs) t in
       yes-and (f x) (all f (take n xs)) (s .0) (all-take n xs (s .1))
 
+  pub all-drop : (n : ℕ) (l : List ℕ) → T (all f l) → T (all f (drop n l))
+  all-drop zero l t = t
+  all-drop (suc n) [] t = tt
+  all-drop (suc n) (x ∷ xs) t = all-drop n xs (and-yes (f x) (all f xs) t .1)
+
   pub all-replicate : (n b : ℕ) → T (f b) → T (all f (replicate n b))
   all-replicate zero b t = tt
   all-replicate (suc n) b t = yes-and (f b) (all f (replicate n b)) t (all-replicate n b t)

@@ -1,0 +1,112 @@
+-- Legal numbers fit their items, so that a frame of legal data is a list of bytes.
+-- Assumes nothing.
+use mathlib.Core.Bool.{Bool, true, _&&_}
+use mathlib.Core.List.{List, [], _∷_, map}
+use mathlib.Core.Logic.{⊎-elim}
+use Prim.Native.Nat.{ℕ, _<_}
+use native.Mathlib.Omega.{arith}
+use lib.Dec.{T, leb→le}
+use lib.IntN.{ℤ, pos, negsuc}
+use lib.Signed.{leZ}
+use mir.Facts.{and-yes, or-yes, yes-and, yes-ltb}
+use mir.Syntax.{w16}
+use mir.Val.{SFits}
+use Rattle.wire.specs.Lists.{all, isByte, allBytes}
+use Rattle.wire.specs.Sixteen.{high16Of, low16Of}
+use Rattle.wire.proofs.ListsLaws.{all-append}
+use Rattle.wire.proofs.SixteenLaws.{round-trip16}
+use Rattle.command.specs.Layout.{Item, byte, word, valueOf, sentAs, allSent, formOf, payloadIn}
+use Rattle.command.specs.CommandTable.{Range, isIn, isLegal, allLegal, entryOf, legalOf}
+use Rattle.command.specs.declared.Command.{Command}
+use Rattle.command.specs.declared.Message.{Message}
+use Rattle.command.proofs.VariantLaws.{every}
+
+-- ---- a number in a range
+
+-- the range is one of bytes, or of sixteen-bit numbers
+abbrev ofBytes : Range → Bool
+ofBytes r = leZ (r .last) (pos 255)
+
+abbrev ofWords : Range → Bool
+ofWords r = leZ (negsuc 32767) (r .first) && leZ (r .last) (pos 32767)
+
+byte-below : (n : ℕ) (z : ℤ) → T (leZ z (pos 255)) → T (leZ (pos n) z) → n < 256
+byte-below n (pos k) t u = let a = leb→le k 255 t in let b = leb→le n k u in omega arith
+byte-below n (negsuc k) t u = absurd u
+
+word-fits : (v a b : ℤ) → T (leZ (negsuc 32767) a) → T (leZ b (pos 32767)) → T (leZ a v) → T (leZ v b) → SFits w16 v
+word-fits (pos n) a (pos k) t u x y = let p = leb→le k 32767 u in let q = leb→le n k y in record { sfits = omega arith }
+word-fits (pos n) a (negsuc k) t u x y = absurd y
+word-fits (negsuc n) (pos k) b t u x y = absurd x
+word-fits (negsuc n) (negsuc k) b t u x y = let p = leb→le k 32767 t in let q = leb→le n k x in record { sfits = omega arith }
+
+module _ (n : ℕ) where
+  legal-byte : (rs : List Range) → T (all ofBytes rs) → T (isLegal rs (pos n)) → n < 256
+  unfolding isIn isLegal
+  legal-byte [] t u = absurd u
+  legal-byte (r ∷ rs) t u =
+      let s = and-yes (ofBytes r) (all ofBytes rs) t in
+      ⊎-elim (λ x. byte-below n (r .last) (s .0) (and-yes (leZ (r .first) (pos n)) (leZ (pos n) (r .last)) x .1)) (λ x. legal-byte rs (s .1) x)
+      (or-yes (isIn r (pos n)) (isLegal rs (pos n)) u)
+
+module _ (v : ℤ) where
+  legal-word : (rs : List Range) → T (all ofWords rs) → T (isLegal rs v) → SFits w16 v
+  unfolding isIn isLegal
+  legal-word [] t u = absurd u
+  legal-word (r ∷ rs) t u =
+      let s = and-yes (ofWords r) (all ofWords rs) t in
+      let w = and-yes (leZ (negsuc 32767) (r .first)) (leZ (r .last) (pos 32767)) (s .0) in
+      ⊎-elim (λ x. let y = and-yes (leZ (r .first) v) (leZ v (r .last)) x in word-fits v (r .first) (r .last) (w .0) (w .1) (y .0) (y .1))
+      (λ x. legal-word rs (s .1) x)
+      (or-yes (isIn r v) (isLegal rs v) u)
+
+-- ---- the numbers of a command
+
+-- each fits its item
+abbrev pub Fit : List Item → Type 0
+Fit [] = Unit {0}
+Fit (byte n ∷ is) = (n < 256) × Fit is
+Fit (word v ∷ is) = SFits w16 v × Fit is
+
+-- the ranges are of their items' kinds
+abbrev kinds : List (List Range) → List Item → Bool
+kinds [] is = true
+kinds (rs ∷ rss) [] = true
+kinds (rs ∷ rss) (byte n ∷ is) = all ofBytes rs && kinds rss is
+kinds (rs ∷ rss) (word v ∷ is) = all ofWords rs && kinds rss is
+
+legal-fit : (rss : List (List Range)) (is : List Item) → T (kinds rss is) → T (allLegal rss (map valueOf is)) → Fit is
+legal-fit [] [] t u = tt
+legal-fit [] (i ∷ is) t u = absurd u
+legal-fit (rs ∷ rss) [] t u = absurd u
+legal-fit (rs ∷ rss) (byte n ∷ is) t u =
+    let s = and-yes (all ofBytes rs) (kinds rss is) t in
+    let x = and-yes (isLegal rs (pos n)) (allLegal rss (map valueOf is)) u in
+    (legal-byte n rs (s .0) (x .0), legal-fit rss is (s .1) (x .1))
+legal-fit (rs ∷ rss) (word v ∷ is) t u =
+    let s = and-yes (all ofWords rs) (kinds rss is) t in
+    let x = and-yes (isLegal rs v) (allLegal rss (map valueOf is)) u in
+    (legal-word v rs (s .0) (x .0), legal-fit rss is (s .1) (x .1))
+
+-- of every row, by one test over the variants
+all-kinds : (c : Command) → T (kinds (entryOf c .legal .numbers) (formOf c .items))
+unfolding entryOf
+all-kinds = every (λ (c : Command). kinds (entryOf c .legal .numbers) (formOf c .items)) (λ a b d v w. tt)
+
+pub numbers-fit : (m : Message) → T (legalOf m) → Fit (formOf (m .command) .items)
+unfolding legalOf
+numbers-fit m t =
+    let d = entryOf (m .command) .legal in
+    legal-fit (d .numbers) (formOf (m .command) .items) (all-kinds (m .command))
+    (and-yes (allLegal (d .numbers) (map valueOf (formOf (m .command) .items))) (d .payload (payloadIn m)) t .0)
+
+-- ---- as bytes
+
+pub sent-bytes : (is : List Item) → Fit is → T (allBytes (allSent is))
+sent-bytes [] f = tt
+sent-bytes (byte n ∷ is) f = yes-and (isByte n) (allBytes (allSent is)) (yes-ltb (f .0)) (sent-bytes is (f .1))
+sent-bytes (word v ∷ is) f =
+    all-append isByte (sentAs (word v)) (allSent is)
+    (yes-and (isByte (high16Of v)) (isByte (low16Of v) && true) (yes-ltb (round-trip16 .high-byte v (f .0)))
+    (yes-and (isByte (low16Of v)) true (yes-ltb (round-trip16 .low-byte v)) tt))
+    (sent-bytes is (f .1))
