@@ -91,7 +91,8 @@ module _ (bytes : List ℕ) (t : T (byteArray 35 bytes)) where
   rest-zero =
       let s = small c in
       let b = all-take isByte (payloadSize c) (drop (length (headOf c)) bytes) (all-drop isByte (length (headOf c)) bytes (array .1)) in
-      subst (λ (n : ℕ). T (byteArray 32 (padded 32 used) && allZero (drop n (padded 32 used)))) used-length (tidy 32 used b (omega (arith, used-length, s .1 .0)))
+      subst (λ (n : ℕ). T (byteArray 32 (padded 32 used) && allZero (drop n (padded 32 used)))) used-length
+      (tidy 32 used b (omega (arith, used-length, s .1 .0)))
 
   no-payload : payloadSize c ≡ 0 → decodeOf bytes .payload ≡ replicate 32 0
   unfolding decodeOf

@@ -6,7 +6,7 @@ use mathlib.Core.List.{List, [], _∷_, map}
 use mathlib.Core.Logic.{⊎-elim}
 use Prim.Native.Nat.{ℕ, _+_, _-_, _≤_, _<_}
 use native.Mathlib.Omega.{arith}
-use lib.Dec.{eqb}
+use lib.Dec.{T, leb, eqb, leb→le}
 use lib.ListN.{length, getD, take, drop, replicate, length-append}
 use lib.Seq.{length-take-le, take-append-seam}
 use borrow.Author.Tests.{le-leb, lt-leb}
@@ -36,32 +36,36 @@ stored-le n = ⊎-elim (λ (h : n ≤ 16). rw (stored-all n h) h) (λ (h : 16 < 
 abbrev Small : Command → Type 0
 Small c = (length (headOf c) ≤ 5) × ((payloadSize c ≤ 32) × (length (headOf c) + payloadSize c ≤ 35))
 
+-- h bytes, and nothing after them
+bare : (h : ℕ) → T (leb h 5) → (h ≤ 5) × ((0 ≤ 32) × (h + 0 ≤ 35))
+bare h t = let u = leb→le h 5 t in (u, (omega arith, omega arith))
+
 pub small : (c : Command) → Small c
-small Start = (omega arith, (omega arith, omega arith))
-small (Baud code) = (omega arith, (omega arith, omega arith))
-small Control = (omega arith, (omega arith, omega arith))
-small Safe = (omega arith, (omega arith, omega arith))
-small Full = (omega arith, (omega arith, omega arith))
-small Power = (omega arith, (omega arith, omega arith))
-small Demo = (omega arith, (omega arith, omega arith))
-small Spot = (omega arith, (omega arith, omega arith))
-small Cover = (omega arith, (omega arith, omega arith))
-small Dock = (omega arith, (omega arith, omega arith))
-small (Drive velocity radius) = (omega arith, (omega arith, omega arith))
-small (Direct right left) = (omega arith, (omega arith, omega arith))
-small (Drivers bits) = (omega arith, (omega arith, omega arith))
-small (Duties driver2 driver1 driver0) = (omega arith, (omega arith, omega arith))
-small (Leds bits color intensity) = (omega arith, (omega arith, omega arith))
-small (Outputs bits) = (omega arith, (omega arith, omega arith))
-small (Infrared code) = (omega arith, (omega arith, omega arith))
-small (Song number notes) = let h = stored-le notes in (omega arith, (omega arith, omega arith))
-small (Play number) = (omega arith, (omega arith, omega arith))
-small (Sensors id) = (omega arith, (omega arith, omega arith))
-small (QueryList ids) = let h = stored-le ids in (omega arith, (omega arith, omega arith))
-small (Stream ids) = let h = stored-le ids in (omega arith, (omega arith, omega arith))
-small (Pause on) = (omega arith, (omega arith, omega arith))
-small (Unknown op) = (omega arith, (omega arith, omega arith))
-small (NotOffered op) = (omega arith, (omega arith, omega arith))
+small Start = bare 1 tt
+small (Baud code) = bare 2 tt
+small Control = bare 1 tt
+small Safe = bare 1 tt
+small Full = bare 1 tt
+small Power = bare 1 tt
+small Demo = bare 1 tt
+small Spot = bare 1 tt
+small Cover = bare 1 tt
+small Dock = bare 1 tt
+small (Drive velocity radius) = bare 5 tt
+small (Direct right left) = bare 5 tt
+small (Drivers bits) = bare 2 tt
+small (Duties driver2 driver1 driver0) = bare 4 tt
+small (Leds bits color intensity) = bare 4 tt
+small (Outputs bits) = bare 2 tt
+small (Infrared code) = bare 2 tt
+small (Song number notes) = let s = stored-le notes in (omega arith, (omega arith, omega arith))
+small (Play number) = bare 2 tt
+small (Sensors id) = bare 2 tt
+small (QueryList ids) = let s = stored-le ids in (omega arith, (omega arith, omega arith))
+small (Stream ids) = let s = stored-le ids in (omega arith, (omega arith, omega arith))
+small (Pause on) = bare 2 tt
+small (Unknown op) = bare 1 tt
+small (NotOffered op) = bare 1 tt
 
 -- ---- headOf: an arm that knows the command
 

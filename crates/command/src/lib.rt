@@ -1,4 +1,27 @@
 // What a whole frame says, and the host-side writer of commands (document 01, 'Commands at their last byte').
+//
+//     opcode            modes       legal data
+//     128 Start         all four    none
+//     129 Baud          P S F       0 to 11
+//     130 Control       P           none
+//     131, 132          P S F       none
+//     133, 136          S F         none
+//     134, 135, 143     P S F       none
+//     137 Drive         S F         velocity -500 to 500; radius -2000 to 2000 but not 0, or 32767, or -32768
+//     145 Direct        S F         right, then left, each -500 to 500
+//     138 Drivers       S F         0 to 7
+//     144 Duties        S F         0 to 128 each, for driver 2, 1, 0
+//     139 LEDs          S F         any three bytes
+//     147, 151          S F         0 to 7; any
+//     140 Song          P S F       number 0 to 15, L 1 to 16, any notes
+//     141 Play          S F         0 to 15
+//     142 Sensors       P S F       0 to 42
+//     149 List          P S F       N 0 to 16, ids 0 to 42
+//     148 Stream        P S F       N and ids as 149, and the ids' sizes plus N at most 255
+//     150 Pause         P S F       0 off, 1 on
+//
+// Proved (specs/Commands.antt): what the writer writes, pushed byte by byte, is complete at its last byte and not before, and is read back as it was;
+// every frame of legal data is what the writer writes of its message; a frame has at most 35 bytes; a refusal writes nothing.
 ghost use mathlib.Core.Path.{_≡_};
 ghost use mathlib.Core.Bool.{_&&_};
 ghost use mathlib.Core.List.{[], _∷_, _++_};
@@ -12,7 +35,8 @@ ghost use Rattle.command.specs.Layout.{headOf, headed, payloadSize, stor
 ghost use Rattle.command.specs.CommandTable.{isIn, _to_, isLegal, speed, radius, legalOf, allowedOf, writeReply};
 use wire::Sent;
 
-// A command, its numbers as a host thinks of them. Notes and ids, which an enum can't hold, stand beside it in a message.
+// A command, with its numbers as a host thinks of them, in the order in which they are sent. Notes and ids, which an enum can't hold, stand
+// beside it in a message.
 pub enum Command {
     Start,
     // A code for the serial speed.
@@ -25,39 +49,26 @@ pub enum Command {
     Spot,
     Cover,
     Dock,
-    Drive {
-        velocity: i16,
-        radius: i16,
-    },
-    Direct {
-        right: i16,
-        left: i16,
-    },
+    // Velocity and radius.
+    Drive(i16, i16),
+    // Right and left.
+    Direct(i16, i16),
     // A bit for each driver output.
     Drivers(u8),
-    // In the order in which they are sent.
-    Duties {
-        driver2: u8,
-        driver1: u8,
-        driver0: u8,
-    },
-    Leds {
-        bits: u8,
-        color: u8,
-        intensity: u8,
-    },
+    // Of driver 2, 1 and 0.
+    Duties(u8, u8, u8),
+    // Bits, color and intensity.
+    Leds(u8, u8, u8),
     Outputs(u8),
     Infrared(u8),
-    // The length is in notes; a note is two bytes of the payload.
-    Song {
-        number: u8,
-        length: u8,
-    },
+    // Its number, and its length in notes; a note is two bytes of the payload.
+    Song(u8, u8),
     Play(u8),
     Sensors(u8),
-    // Document 01: List. The number of the ids, which stand in the payload.
+    // Document 01: List. How many ids of the payload it has.
     QueryList(u8),
     Stream(u8),
+    // 0 off, 1 on.
     Pause(u8),
     // An opcode that is not in the frame table.
     Unknown(u8),
@@ -94,7 +105,7 @@ fn payload_size(command: Command) -> usize
     ensures { λ r. ⌜ r ≡ payloadSize command ⌝ }
 {
     match command {
-        Command::Song { number: _, length } => 2 * stored_count(length),
+        Command::Song(_, notes) => 2 * stored_count(notes),
         Command::QueryList(ids) => stored_count(ids),
         Command::Stream(ids) => stored_count(ids),
         _ => 0,
@@ -167,22 +178,14 @@ fn head_of(command: Command) -> Head
         Command::Spot => head0(134),
         Command::Cover => head0(135),
         Command::Dock => head0(143),
-        Command::Drive { velocity, radius } => head_words(137, velocity, radius),
-        Command::Direct { right, left } => head_words(145, right, left),
+        Command::Drive(velocity, radius) => head_words(137, velocity, radius),
+        Command::Direct(right, left) => head_words(145, right, left),
         Command::Drivers(bits) => head1(138, bits),
-        Command::Duties {
-            driver2,
-            driver1,
-            driver0,
-        } => head3(144, driver2, driver1, driver0),
-        Command::Leds {
-            bits,
-            color,
-            intensity,
-        } => head3(139, bits, color, intensity),
+        Command::Duties(driver2, driver1, driver0) => head3(144, driver2, driver1, driver0),
+        Command::Leds(bits, color, intensity) => head3(139, bits, color, intensity),
         Command::Outputs(bits) => head1(147, bits),
         Command::Infrared(code) => head1(151, code),
-        Command::Song { number, length } => head2(140, number, length),
+        Command::Song(number, notes) => head2(140, number, notes),
         Command::Play(number) => head1(141, number),
         Command::Sensors(id) => head1(142, id),
         Command::QueryList(ids) => head1(149, ids),
@@ -213,31 +216,14 @@ fn command_of(bytes: [u8; 35]) -> Command
         134 => Command::Spot,
         135 => Command::Cover,
         143 => Command::Dock,
-        137 => Command::Drive {
-            velocity: wire::read16(a, b),
-            radius: wire::read16(c, d),
-        },
-        145 => Command::Direct {
-            right: wire::read16(a, b),
-            left: wire::read16(c, d),
-        },
+        137 => Command::Drive(wire::read16(a, b), wire::read16(c, d)),
+        145 => Command::Direct(wire::read16(a, b), wire::read16(c, d)),
         138 => Command::Drivers(a),
-        144 => Command::Duties {
-            driver2: a,
-            driver1: b,
-            driver0: c,
-        },
-        139 => Command::Leds {
-            bits: a,
-            color: b,
-            intensity: c,
-        },
+        144 => Command::Duties(a, b, c),
+        139 => Command::Leds(a, b, c),
         147 => Command::Outputs(a),
         151 => Command::Infrared(a),
-        140 => Command::Song {
-            number: a,
-            length: b,
-        },
+        140 => Command::Song(a, b),
         141 => Command::Play(a),
         142 => Command::Sensors(a),
         149 => Command::QueryList(a),
@@ -304,23 +290,16 @@ pub fn legal(message: Message) -> bool
     let payload = message.payload;
     match command {
         Command::Baud(code) => code <= 11,
-        Command::Drive { velocity, radius } => is_speed(velocity) && is_radius(radius),
-        Command::Direct { right, left } => is_speed(right) && is_speed(left),
+        Command::Drive(velocity, radius) => is_speed(velocity) && is_radius(radius),
+        Command::Direct(right, left) => is_speed(right) && is_speed(left),
         Command::Drivers(bits) => bits <= 7,
-        Command::Duties {
-            driver2,
-            driver1,
-            driver0,
-        } => driver2 <= 128 && (driver1 <= 128 && driver0 <= 128),
-        // The bytes are named, for what their type says of them.
-        Command::Leds {
-            bits: _bits,
-            color: _color,
-            intensity: _intensity,
-        } => true,
+        Command::Duties(driver2, driver1, driver0) => driver2 <= 128
+            && (driver1 <= 128 && driver0 <= 128),
+        // Any bytes; they are bound for what their type says of them.
+        Command::Leds(_bits, _color, _intensity) => true,
         Command::Outputs(bits) => bits <= 7,
         Command::Infrared(_code) => true,
-        Command::Song { number, length } => number <= 15 && (1 <= length && length <= LEGAL_COUNT),
+        Command::Song(number, notes) => number <= 15 && (1 <= notes && notes <= LEGAL_COUNT),
         Command::Play(number) => number <= 15,
         Command::Sensors(id) => id <= 42,
         Command::QueryList(ids) => is_list(ids, payload),
@@ -355,11 +334,11 @@ pub fn allowed(command: Command, mode: u8) -> bool
         Command::Control => mode == PASSIVE,
         Command::Power
         | Command::Demo
-        | Command::Drive { .. }
-        | Command::Direct { .. }
+        | Command::Drive(_, _)
+        | Command::Direct(_, _)
         | Command::Drivers(_)
-        | Command::Duties { .. }
-        | Command::Leds { .. }
+        | Command::Duties(_, _, _)
+        | Command::Leds(_, _, _)
         | Command::Outputs(_)
         | Command::Infrared(_)
         | Command::Play(_) => from_mode(SAFE, mode),

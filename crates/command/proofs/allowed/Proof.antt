@@ -38,7 +38,8 @@ unfolding entryOf
 returns-3 c =
     let a = c .before .before .args in
     let tags : List ℕ = 5 ∷ 6 ∷ (fromTo 10 16 ++ (18 ∷ [])) in
-    c .from-mode .ensures ∙ from-safe (a .mode) (omega arith) ∙ allowed-as (a .mode) refl (has (a .command) (2 ∷ 3 ∷ []) tags (λ a b d v w. tt) (c .before .match .keys3))
+    c .from-mode .ensures ∙ from-safe (a .mode) (omega arith)
+    ∙ allowed-as (a .mode) refl (has (a .command) (2 ∷ 3 ∷ []) tags (λ a b d v w. tt) (c .before .match .keys3))
 
 returns-4 : tie.Need-returns-4
 unfolding entryOf

@@ -26,7 +26,8 @@ returns : tie.Need-returns
 returns c =
     let size = c .before .before .before .before in
     let head = size .before in
-    decoded (head .before .before .args .t1) (head .before .command-of .ensures) (head .head-of .ensures) (size .payload-size .ensures) (c .before .put-part .ensures)
+    decoded (head .before .before .args .t1) (head .before .command-of .ensures) (head .head-of .ensures) (size .payload-size .ensures)
+    (c .before .put-part .ensures)
 
 pub decode-spec : {M : Type 1} → statement M
 decode-spec =

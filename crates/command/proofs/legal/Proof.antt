@@ -1,7 +1,7 @@
 -- `command::legal` meets its contract: each arm knows the variant, and tests what its row says.
 -- Assumes nothing.
 use mathlib.Core.Path.{_≡_, sym, _∙_}
-use mathlib.Core.Bool.{true, _&&_}
+use mathlib.Core.Bool.{Bool, true, _&&_}
 use mathlib.Core.List.{List, _∷_}
 use Prim.Native.Nat.{ℕ, _*_, _<_}
 use native.Mathlib.Omega.{arith}
@@ -83,12 +83,14 @@ duties m {a} {b} {d} e = bytes-legal 128 a b d ∙ legal-as m e
 returns-7 : tie.Need-returns-7
 returns-7 c =
     let e = c .before .before .before .command5 .given in
-    third-of-three _ (le-leb _ _ (c .before .if3 .taken)) (le-leb _ _ (c .if4 .taken)) ∙ duties (c .before .before .before .before .before .before .args .message) (e .1)
+    third-of-three _ (le-leb _ _ (c .before .if3 .taken)) (le-leb _ _ (c .if4 .taken))
+    ∙ duties (c .before .before .before .before .before .before .args .message) (e .1)
 
 returns-8 : tie.Need-returns-8
 returns-8 c =
     let e = c .before .before .before .command5 .given in
-    second-of-three _ (le-leb _ _ (c .before .if3 .taken)) (lt-leb _ _ (c .if4 .left)) ∙ duties (c .before .before .before .before .before .before .args .message) (e .1)
+    second-of-three _ (le-leb _ _ (c .before .if3 .taken)) (lt-leb _ _ (c .if4 .left))
+    ∙ duties (c .before .before .before .before .before .before .args .message) (e .1)
 
 returns-9 : tie.Need-returns-9
 returns-9 c =
@@ -114,7 +116,8 @@ returns-12 c =
     sym (le-leb (e .0 .0) 255 (omega arith)) ∙ byte-legal 255 _ ∙ legal-as (c .before .before .before .before .args .message) (e .1)
 
 -- a song's number and length, as they are tested
-song : (c : tie.Start) {number notes : ℕ} → c .args .message .command ≡ Song number notes → (leb number 15 && (leb 1 notes && leb notes 16)) ≡ legalOf (c .args .message)
+song : (c : tie.Start) {number notes : ℕ} → c .args .message .command ≡ Song number notes
+    → (leb number 15 && (leb 1 notes && leb notes 16)) ≡ legalOf (c .args .message)
 unfolding entryOf legalOf
 song c {number} {notes} e =
     let n = 2 * storedCount notes in
@@ -135,13 +138,24 @@ returns-15 c =
     let e = c .before .before .command9 .given in
     first-of-three _ (lt-leb _ _ (c .if5 .left)) ∙ song (c .before .before .before .before .before) (e .1)
 
+query : tie.Need-returns-18
+unfolding entryOf legalOf
+query c =
+    c .is-list .ensures ∙ ids-legal _ _ ∙ legal-as (c .before .before .before .before .before .args .message) (c .before .before .command12 .given .1)
+
+stream : tie.Need-returns-19
+unfolding entryOf legalOf
+stream c =
+    c .is-stream .ensures ∙ ids-legal _ _ ∙ legal-as (c .before .before .before .before .before .args .message) (c .before .before .command13 .given .1)
+
 -- the variants of the last arm have no data
 returns-23 : tie.Need-returns-23
 unfolding entryOf legalOf
 returns-23 c =
     let m = c .before .before .args .message in
+    let test : Command → Bool = λ x. legalOf (record { command = x; payload = m .payload }) in
     let tags : List ℕ = 0 ∷ fromTo 2 9 in
-    sym (is-true (legalOf m) (of-tags (λ (x : Command). legalOf (record { command = x; payload = m .payload })) tags (λ a b d v w. tt) (m .command) (c .match .keys17)))
+    sym (is-true (legalOf m) (of-tags test tags (λ a b d v w. tt) (m .command) (c .match .keys17)))
 
 pub legal-spec : {M : Type 1} → statement M
 unfolding entryOf legalOf
@@ -187,8 +201,8 @@ legal-spec =
     returns-15
     (λ c. byte-legal 15 _ ∙ legal-as (c .before .before .before .before .args .message) (c .before .command10 .given .1))
     (λ c. byte-legal 42 _ ∙ legal-as (c .before .before .before .before .args .message) (c .before .command11 .given .1))
-    (λ c. c .is-list .ensures ∙ ids-legal _ _ ∙ legal-as (c .before .before .before .before .before .args .message) (c .before .before .command12 .given .1))
-    (λ c. c .is-stream .ensures ∙ ids-legal _ _ ∙ legal-as (c .before .before .before .before .before .args .message) (c .before .before .command13 .given .1))
+    query
+    stream
     (λ c. byte-legal 1 _ ∙ legal-as (c .before .before .before .before .args .message) (c .before .command14 .given .1))
     (λ c. legal-as (c .before .before .before .args .message) (c .enum-told .given .1))
     (λ c. legal-as (c .before .before .before .args .message) (c .enum-told2 .given .1))

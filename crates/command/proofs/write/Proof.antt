@@ -28,11 +28,12 @@ is-legal : (c : tie.Else1) → legalOf (c .before .before .before .args .message
 is-legal c = sym (c .before .legal .ensures) ∙ not-false _ (c .if1 .left)
 
 -- the frame's length is the sum that is compared with the room
-sized : (c : tie.After-payload-size)
-    → length (encodeOf (c .before .before .before .before .before .before .before .args .message)) ≡ c .before .before .head-of .result .size + c .payload-size .result
+sized : (c : tie.After-payload-size) → length (encodeOf (c .before .before .before .before .before .before .before .args .message))
+    ≡ c .before .before .head-of .result .size + c .payload-size .result
 sized c =
     let start = c .before .before .before .before .before .before .before in
-    omega (arith, encode-length (start .args .message) (array start), ap (λ (h : Head). h .size) (c .before .before .head-of .ensures), c .payload-size .ensures)
+    let e = ap (λ (h : Head). h .size) (c .before .before .head-of .ensures) in
+    omega (arith, encode-length (start .args .message) (array start), c .payload-size .ensures)
 
 add-if2 : tie.Need-add-if2
 add-if2 c =
@@ -69,7 +70,8 @@ put-part-requires-2 c κs =
     let s = small (start .args .message .command) in
     let n = size .payload-size .result in
     let same = put .put-part .kept .1 .1 .1 .0 in
-    let at : put .put-part .result ≤ head .head-of .result .size = omega (arith, put .put-part .ensures .next, length-take (head .head-of .result .size) (head .head-of .result .bytes)) in
+    let h = head .head-of .result in
+    let at : put .put-part .result ≤ h .size = omega (arith, put .put-part .ensures .next, length-take (h .size) (h .bytes)) in
     let x : 0 + n ≤ length (start .args .message .payload) = omega (arith, array start, s .1 .0, size .payload-size .ensures) in
     let y : put .put-part .result + n ≤ length (put .put-part .last .1 .1 .1 .0) = omega (arith, room .if2 .left) in
     (x, y)
