@@ -125,13 +125,21 @@ decoding-right = decode-tells
 
 -- ---- write
 
--- all that is written is in the places in use
+-- all that is judged and written is in the places in use
+module _ (k : Command) (p q : List ℕ) (e : take (payloadSize k) p ≡ take (payloadSize k) q) where
+  same-legal : legalOf (message k p) ≡ legalOf (message k q)
+  unfolding legalOf
+  same-legal =
+      let d = entryOf k .legal in
+      ap (λ (l : List ℕ). allLegal (d .numbers) (map valueOf (formOf k .items)) && d .payload l) e
+
+  same-frame : encodeOf (message k p) ≡ encodeOf (message k q)
+  unfolding encodeOf
+  same-frame = ap (λ (l : List ℕ). headOf k ++ l) e
+
 by-payload : (k : Command) (p q : List ℕ) → take (payloadSize k) p ≡ take (payloadSize k) q
     → (room : ℕ) → writeReply (message k p) room ≡ writeReply (message k q) room
-unfolding encodeOf legalOf
-by-payload k p q e room =
-    let x = entryOf k .legal in
-    ap (λ (l : List ℕ). replyOf (allLegal (x .numbers) (map valueOf (formOf k .items)) && x .payload l) (headOf k ++ l) room) e
+by-payload k p q e room = rw (same-legal k p q e, same-frame k p q e) refl
 
 longest : (m : Message) → length (encodeOf m) ≤ 35
 unfolding encodeOf
@@ -147,6 +155,7 @@ pub writing-right : WritingRight
 unfolding encodeOf entryOf allowedOf legalOf
 writing-right =
     record {
+      illegal-4 = λ m room e. reply-4 (encodeOf m) room e;
       write-tells = λ m before after result x. replies-tell (legalOf m) (encodeOf m) before after result x;
       unknown-4 = λ op p room. reply-4 _ room refl;
       not-offered-4 = λ op p room. reply-4 _ room refl;

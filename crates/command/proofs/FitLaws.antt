@@ -7,12 +7,12 @@ use Prim.Native.Nat.{ℕ, _<_}
 use native.Mathlib.Omega.{arith}
 use lib.Dec.{T, leb→le}
 use lib.IntN.{ℤ, pos, negsuc}
+use lib.ListN.{getD}
 use lib.Signed.{leZ}
 use mir.Facts.{and-yes, or-yes, yes-and, yes-ltb}
 use mir.Syntax.{w16}
 use mir.Val.{SFits}
 use Rattle.wire.specs.Lists.{all, isByte, allBytes}
-use Rattle.wire.specs.Sixteen.{high16Of, low16Of}
 use Rattle.wire.proofs.ListsLaws.{all-append}
 use Rattle.wire.proofs.SixteenLaws.{round-trip16}
 use Rattle.command.specs.Layout.{Item, byte, word, valueOf, sentAs, allSent, formOf, payloadIn}
@@ -106,7 +106,12 @@ pub sent-bytes : (is : List Item) → Fit is → T (allBytes (allSent is))
 sent-bytes [] f = tt
 sent-bytes (byte n ∷ is) f = yes-and (isByte n) (allBytes (allSent is)) (yes-ltb (f .0)) (sent-bytes is (f .1))
 sent-bytes (word v ∷ is) f =
+    let h = round-trip16 .high-byte v (f .0) in
+    let l = round-trip16 .low-byte v in
+    let first = getD (sentAs (word v)) 0 0 in
+    let second = getD (sentAs (word v)) 1 0 in
+    let a : first < 256 = omega arith in
+    let b : second < 256 = omega arith in
     all-append isByte (sentAs (word v)) (allSent is)
-    (yes-and (isByte (high16Of v)) (isByte (low16Of v) && true) (yes-ltb (round-trip16 .high-byte v (f .0)))
-    (yes-and (isByte (low16Of v)) true (yes-ltb (round-trip16 .low-byte v)) tt))
+    (yes-and (isByte first) (isByte second && true) (yes-ltb a) (yes-and (isByte second) true (yes-ltb b) tt))
     (sent-bytes is (f .1))

@@ -71,6 +71,8 @@ message c payload = record { command = c; payload = payload }
 
 -- THEOREM: the writer
 pub record WritingRight : Type 0 where
+  -- 4 for anything that isn't an offered command with legal data, whatever the room
+  pub illegal-4 : (m : Message) (room : ℕ) → legalOf m ≡ false → writeReply m room ≡ refused 4
   -- 4 exactly where the data aren't legal, 7 exactly where the frame is longer than the buffer, and else that frame
   pub write-tells : (m : Message) (before after : List ℕ) (result : Sent) → Replied (writeReply m) before after result
       → ReplyTells (legalOf m) (encodeOf m) before after result

@@ -1,23 +1,29 @@
 -- `command::is_radius` meets its contract: one range after the other.
 -- Assumes nothing.
 use mathlib.Core.Path.{_≡_, sym, _∙_}
-use lib.IntN.{pos, negsuc}
+use Prim.Native.Nat.{ℕ}
+use lib.IntN.{pos}
+use lib.ListN.{getD}
 use mir.Syntax.{w16}
 use mir.ValLaws.{toZ-ofZ}
 use borrow.Author.Needs.{needs}
-use Rattle.command.specs.CommandTable.{isIn, _to_, isLegal}
+use Rattle.command.specs.CommandTable.{Range, _to_, isIn, isLegal, radius}
 use Rattle.wire.proofs.BoolLaws.{or-none}
 use Rattle.command.proofs.is_radius.Statement.{statement}
 use Rattle.command.proofs.is_radius.Tie as tie
 
+-- the table's ranges
+abbrev range : ℕ → Range
+range i = getD radius i (pos 0 to pos 0)
+
 -- what each test tells
-first : (c : tie.After-is-in) → c .is-in .result ≡ isIn (negsuc 1999 to negsuc 0) (c .before .args .v)
+first : (c : tie.After-is-in) → c .is-in .result ≡ isIn (range 0) (c .before .args .v)
 first c = rw (toZ-ofZ w16 _ (c .before .fits .v)) at (c .is-in .ensures)
 
-second : (c : tie.After-is-in2) → c .is-in2 .result ≡ isIn (pos 1 to pos 2000) (c .before .before .before .args .v)
+second : (c : tie.After-is-in2) → c .is-in2 .result ≡ isIn (range 1) (c .before .before .before .args .v)
 second c = rw (toZ-ofZ w16 _ (c .before .before .before .fits .v)) at (c .is-in2 .ensures)
 
-third : (c : tie.After-is-in3) → c .is-in3 .result ≡ isIn (pos 32767 to pos 32767) (c .before .before .before .before .before .args .v)
+third : (c : tie.After-is-in3) → c .is-in3 .result ≡ isIn (range 2) (c .before .before .before .before .before .args .v)
 third c = rw (toZ-ofZ w16 _ (c .before .before .before .before .before .fits .v)) at (c .is-in3 .ensures)
 
 returns : tie.Need-returns
