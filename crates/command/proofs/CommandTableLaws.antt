@@ -77,3 +77,7 @@ second-of-three d e f = simp (e, f)
 
 pub third-of-three : {a b : Bool} (d : Bool) → a ≡ true → b ≡ true → d ≡ (a && (b && d))
 third-of-three d e f = simp (e, f)
+
+-- a rule after a test that passes
+pub last-decides : {a b : Bool} → a ≡ true → b ≡ (a && b)
+last-decides e = simp e

@@ -23,14 +23,10 @@
 // Proved (specs/Commands.antt): what the writer writes, pushed byte by byte, is complete at its last byte and not before, and is read back as it was;
 // every frame of legal data is what the writer writes of its message; a frame has at most 35 bytes; a refusal writes nothing.
 ghost use mathlib.Core.Path.{_≡_};
-ghost use mathlib.Core.Bool.{_&&_};
 ghost use mathlib.Core.List.{[], _∷_, _++_};
-ghost use lib.Dec.{leb};
-ghost use lib.ListN.{length, take};
 ghost use Rattle.wire.specs.Lists.{within};
 ghost use Rattle.wire.specs.Sixteen.{be16};
 ghost use Rattle.wire.specs.Replies.{Replied};
-ghost use Rattle.packet.specs.Answers.{listableOf, streamableOf};
 ghost use Rattle.command.specs.Layout.{headOf, headed, payloadSize, storedCount, commandOf, decodeOf};
 ghost use Rattle.command.specs.CommandTable.{isIn, _to_, isLegal, speed, radius, legalOf, allowedOf, writeReply};
 use wire::Sent;
@@ -266,28 +262,14 @@ fn is_radius(v: i16) -> bool
         || (is_in(1, 2000, v) || (is_in(32767, 32767, v) || is_in(-32768, -32768, v)))
 }
 
-// 149's rule, for the ids in use.
-fn is_list(ids: u8, payload: [u8; 32]) -> bool
-    ensures { λ r. ⌜ r ≡ (leb ids 16 && listableOf (take (storedCount ids) payload)) ⌝ }
-{
-    let n = stored_count(ids);
-    ids <= LEGAL_COUNT && packet::listable(&payload[0..n])
-}
-
-// 148's.
-fn is_stream(ids: u8, payload: [u8; 32]) -> bool
-    ensures { λ r. ⌜ r ≡ (leb ids 16 && streamableOf (take (storedCount ids) payload)) ⌝ }
-{
-    let n = stored_count(ids);
-    ids <= LEGAL_COUNT && packet::streamable(&payload[0..n])
-}
-
 // Whether the data are legal. What it gives for a variant that is refused as such is free in the papers: none has legal data.
 pub fn legal(message: Message) -> bool
     ensures { λ r. ⌜ r ≡ legalOf message ⌝ }
 {
     let command = message.command;
     let payload = message.payload;
+    let n = payload_size(command);
+    let used = &payload[0..n];
     match command {
         Command::Baud(code) => code <= 11,
         Command::Drive(velocity, radius) => is_speed(velocity) && is_radius(radius),
@@ -302,8 +284,8 @@ pub fn legal(message: Message) -> bool
         Command::Song(number, notes) => number <= 15 && (1 <= notes && notes <= LEGAL_COUNT),
         Command::Play(number) => number <= 15,
         Command::Sensors(id) => id <= 42,
-        Command::QueryList(ids) => is_list(ids, payload),
-        Command::Stream(ids) => is_stream(ids, payload),
+        Command::QueryList(ids) => ids <= LEGAL_COUNT && packet::listable(used),
+        Command::Stream(ids) => ids <= LEGAL_COUNT && packet::streamable(used),
         Command::Pause(on) => on <= 1,
         Command::Unknown(_) => false,
         Command::NotOffered(_) => false,

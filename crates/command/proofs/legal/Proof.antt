@@ -1,12 +1,13 @@
 -- `command::legal` meets its contract: each arm knows the variant, and tests what its row says.
 -- Assumes nothing.
-use mathlib.Core.Path.{_≡_, sym, _∙_}
+use mathlib.Core.Path.{_≡_, sym, ap, _∙_}
 use mathlib.Core.Bool.{Bool, true, _&&_}
 use mathlib.Core.List.{List, _∷_}
-use Prim.Native.Nat.{ℕ, _*_, _<_}
+use Prim.Native.Nat.{ℕ, _-_, _*_, _≤_, _<_}
+use native.Mathlib.Nat.{sub-zero}
 use native.Mathlib.Omega.{arith}
 use lib.Dec.{leb}
-use lib.ListN.{getD, take}
+use lib.ListN.{length, getD, take}
 use mir.Syntax.{w8, w16}
 use mir.Val.{Fits}
 use mir.ValLaws.{toZ-ofZ}
@@ -15,15 +16,29 @@ use borrow.Author.Tests.{le-leb, lt-leb}
 use Rattle.wire.specs.Lists.{fromTo, isByte, allBytes}
 use Rattle.wire.proofs.BoolLaws.{is-true, to-T}
 use Rattle.wire.proofs.ListsLaws.{all-take, bytes-true}
-use Rattle.command.specs.Layout.{storedCount}
+use Rattle.packet.specs.Answers.{listableOf, streamableOf}
+use Rattle.command.specs.Layout.{storedCount, payloadSize, payloadIn}
 use Rattle.command.specs.CommandTable.{isLegal, speed, entryOf, legalOf}
 use Rattle.command.specs.declared.Command.{Command}
-use Rattle.command.specs.declared.Command.the-variants.{Duties, Song}
+use Rattle.command.specs.declared.Command.the-variants.{Duties, Song, QueryList, Stream}
 use Rattle.command.specs.declared.Message.{Message}
 use Rattle.command.proofs.VariantLaws.{of-tags}
-use Rattle.command.proofs.CommandTableLaws.{legal-as, byte-legal, bytes-legal, song-legal, ids-legal, first-decides, second-decides, first-of-three, second-of-three, third-of-three}
+use Rattle.command.proofs.LayoutLaws.{small}
+use Rattle.command.proofs.CommandTableLaws.{legal-as, byte-legal, bytes-legal, song-legal, ids-legal, first-decides, second-decides, first-of-three, second-of-three, third-of-three, last-decides}
 use Rattle.command.proofs.legal.Statement.{statement}
 use Rattle.command.proofs.legal.Tie as tie
+
+-- the message that is judged
+abbrev asked : tie.After-used → Message
+asked c = c .before .before .before .before .args .message
+
+part-used-end : tie.Need-part-used-end
+part-used-end c =
+    let start = c .before .before .before in
+    let l : length (start .args .message .payload) ≡ 32 = search needs in
+    let s = small (start .args .message .command) in
+    let x : c .before .payload-size .result ≤ length (start .args .message .payload) = omega (arith, s .1 .0, c .before .payload-size .ensures) in
+    x
 
 -- the array's elements are bytes
 any-notes : (c : tie.Start) (n : ℕ) → allBytes (take n (c .args .message .payload)) ≡ true
@@ -49,7 +64,7 @@ returns-2 c =
     let first = c .before .before in
     let e = first .before .before .command2 .given in
     let r = rw (toZ-ofZ w16 (e .0 .1 .0) (record { sfits = first .before .known-told2 .given .1 .0 .1 })) at (c .is-radius .ensures) in
-    r ∙ second-decides (sym (velocity first) ∙ c .before .if1 .taken) ∙ legal-as (first .before .before .before .before .before .args .message) (e .1)
+    r ∙ second-decides (sym (velocity first) ∙ c .before .if1 .taken) ∙ legal-as (asked (first .before .before .before .before)) (e .1)
 
 returns-3 : tie.Need-returns-3
 unfolding entryOf legalOf
@@ -57,7 +72,7 @@ returns-3 c =
     let first = c .before in
     let e = first .before .before .command2 .given in
     velocity first ∙ first-decides _ (sym (velocity first) ∙ c .if1 .left)
-    ∙ legal-as (first .before .before .before .before .before .args .message) (e .1)
+    ∙ legal-as (asked (first .before .before .before .before)) (e .1)
 
 returns-4 : tie.Need-returns-4
 unfolding entryOf legalOf
@@ -65,7 +80,7 @@ returns-4 c =
     let first = c .before .before in
     let e = first .before .before .command3 .given in
     let r = rw (toZ-ofZ w16 (e .0 .1 .0) (record { sfits = first .before .known-told3 .given .1 .0 .1 })) at (c .is-speed3 .ensures) in
-    r ∙ second-decides (sym (right first) ∙ c .before .if2 .taken) ∙ legal-as (first .before .before .before .before .before .args .message) (e .1)
+    r ∙ second-decides (sym (right first) ∙ c .before .if2 .taken) ∙ legal-as (asked (first .before .before .before .before)) (e .1)
 
 returns-5 : tie.Need-returns-5
 unfolding entryOf legalOf
@@ -73,7 +88,7 @@ returns-5 c =
     let first = c .before in
     let e = first .before .before .command3 .given in
     right first ∙ first-decides _ (sym (right first) ∙ c .if2 .left)
-    ∙ legal-as (first .before .before .before .before .before .args .message) (e .1)
+    ∙ legal-as (asked (first .before .before .before .before)) (e .1)
 
 -- the three duties, as they are tested
 duties : (m : Message) {a b d : ℕ} → m .command ≡ Duties a b d → (leb a 128 && (leb b 128 && leb d 128)) ≡ legalOf m
@@ -84,18 +99,18 @@ returns-7 : tie.Need-returns-7
 returns-7 c =
     let e = c .before .before .before .command5 .given in
     third-of-three _ (le-leb _ _ (c .before .if3 .taken)) (le-leb _ _ (c .if4 .taken))
-    ∙ duties (c .before .before .before .before .before .before .args .message) (e .1)
+    ∙ duties (asked (c .before .before .before .before .before)) (e .1)
 
 returns-8 : tie.Need-returns-8
 returns-8 c =
     let e = c .before .before .before .command5 .given in
     second-of-three _ (le-leb _ _ (c .before .if3 .taken)) (lt-leb _ _ (c .if4 .left))
-    ∙ duties (c .before .before .before .before .before .before .args .message) (e .1)
+    ∙ duties (asked (c .before .before .before .before .before)) (e .1)
 
 returns-9 : tie.Need-returns-9
 returns-9 c =
     let e = c .before .before .command5 .given in
-    first-of-three _ (lt-leb _ _ (c .if3 .left)) ∙ duties (c .before .before .before .before .before .args .message) (e .1)
+    first-of-three _ (lt-leb _ _ (c .if3 .left)) ∙ duties (asked (c .before .before .before .before)) (e .1)
 
 returns-10 : tie.Need-returns-10
 unfolding entryOf legalOf
@@ -106,53 +121,80 @@ returns-10 c =
     let h : Fits w8 (e .0 .1 .1 .0) = search needs in
     let d : (leb (e .0 .0) 255 && (leb (e .0 .1 .0) 255 && leb (e .0 .1 .1 .0) 255)) ≡ true =
     simp (le-leb (e .0 .0) 255 (omega arith), le-leb (e .0 .1 .0) 255 (omega arith), le-leb (e .0 .1 .1 .0) 255 (omega arith)) in
-    sym d ∙ bytes-legal 255 _ _ _ ∙ legal-as (c .before .before .before .before .args .message) (e .1)
+    sym d ∙ bytes-legal 255 _ _ _ ∙ legal-as (asked (c .before .before .before)) (e .1)
 
 returns-12 : tie.Need-returns-12
 unfolding entryOf legalOf
 returns-12 c =
     let e = c .before .command8 .given in
     let f : Fits w8 (e .0 .0) = search needs in
-    sym (le-leb (e .0 .0) 255 (omega arith)) ∙ byte-legal 255 _ ∙ legal-as (c .before .before .before .before .args .message) (e .1)
+    sym (le-leb (e .0 .0) 255 (omega arith)) ∙ byte-legal 255 _ ∙ legal-as (asked (c .before .before .before)) (e .1)
 
 -- a song's number and length, as they are tested
-song : (c : tie.Start) {number notes : ℕ} → c .args .message .command ≡ Song number notes
-    → (leb number 15 && (leb 1 notes && leb notes 16)) ≡ legalOf (c .args .message)
+song : (c : tie.After-used) {number notes : ℕ} → asked c .command ≡ Song number notes → (leb number 15 && (leb 1 notes && leb notes 16)) ≡ legalOf (asked c)
 unfolding entryOf legalOf
 song c {number} {notes} e =
     let n = 2 * storedCount notes in
-    song-legal number notes (take n (c .args .message .payload)) (any-notes c n) ∙ legal-as (c .args .message) e
+    song-legal number notes (take n (asked c .payload)) (any-notes (c .before .before .before .before) n) ∙ legal-as (asked c) e
 
 returns-13 : tie.Need-returns-13
 returns-13 c =
     let e = c .before .before .before .command9 .given in
-    third-of-three _ (le-leb _ _ (c .before .if5 .taken)) (le-leb _ _ (c .if6 .taken)) ∙ song (c .before .before .before .before .before .before) (e .1)
+    third-of-three _ (le-leb _ _ (c .before .if5 .taken)) (le-leb _ _ (c .if6 .taken)) ∙ song (c .before .before .before .before .before) (e .1)
 
 returns-14 : tie.Need-returns-14
 returns-14 c =
     let e = c .before .before .before .command9 .given in
-    second-of-three _ (le-leb _ _ (c .before .if5 .taken)) (lt-leb _ _ (c .if6 .left)) ∙ song (c .before .before .before .before .before .before) (e .1)
+    second-of-three _ (le-leb _ _ (c .before .if5 .taken)) (lt-leb _ _ (c .if6 .left)) ∙ song (c .before .before .before .before .before) (e .1)
 
 returns-15 : tie.Need-returns-15
 returns-15 c =
     let e = c .before .before .command9 .given in
-    first-of-three _ (lt-leb _ _ (c .if5 .left)) ∙ song (c .before .before .before .before .before) (e .1)
+    first-of-three _ (lt-leb _ _ (c .if5 .left)) ∙ song (c .before .before .before .before) (e .1)
 
-query : tie.Need-returns-18
-unfolding entryOf legalOf
-query c =
-    c .is-list .ensures ∙ ids-legal _ _ ∙ legal-as (c .before .before .before .before .before .args .message) (c .before .before .command12 .given .1)
+-- a list's count, and the rule for its ids
+module _ (m : Message) {ids : ℕ} where
+  query : m .command ≡ QueryList ids → (leb ids 16 && listableOf (payloadIn m)) ≡ legalOf m
+  unfolding entryOf legalOf
+  query e =
+      ap (λ (x : Command). leb ids 16 && listableOf (take (payloadSize x) (m .payload))) e
+      ∙ ids-legal ids (listableOf (take (storedCount ids) (m .payload))) ∙ legal-as m e
 
-stream : tie.Need-returns-19
-unfolding entryOf legalOf
-stream c =
-    c .is-stream .ensures ∙ ids-legal _ _ ∙ legal-as (c .before .before .before .before .before .args .message) (c .before .before .command13 .given .1)
+  stream : m .command ≡ Stream ids → (leb ids 16 && streamableOf (payloadIn m)) ≡ legalOf m
+  unfolding entryOf legalOf
+  stream e =
+      ap (λ (x : Command). leb ids 16 && streamableOf (take (payloadSize x) (m .payload))) e
+      ∙ ids-legal ids (streamableOf (take (storedCount ids) (m .payload))) ∙ legal-as m e
+
+-- what is lent is the places in use
+in-use : (c : tie.After-used) → take (c .before .before .payload-size .result - 0) (asked c .payload) ≡ payloadIn (asked c)
+in-use c =
+    let size = c .before .before .payload-size in
+    ap (λ (n : ℕ). take n (asked c .payload)) (sub-zero (size .result) ∙ size .ensures)
+
+returns-18 : tie.Need-returns-18
+returns-18 c =
+    let used = c .before .before .before .before .before in
+    (rw (in-use used) at (c .listable .ensures)) ∙ last-decides (le-leb _ _ (c .before .if7 .taken))
+    ∙ query (asked used) (c .before .before .before .command12 .given .1)
+
+returns-19 : tie.Need-returns-19
+returns-19 c = first-of-three _ (lt-leb _ _ (c .if7 .left)) ∙ query (asked (c .before .before .before .before)) (c .before .before .command12 .given .1)
+
+returns-20 : tie.Need-returns-20
+returns-20 c =
+    let used = c .before .before .before .before .before in
+    (rw (in-use used) at (c .streamable .ensures)) ∙ last-decides (le-leb _ _ (c .before .if8 .taken))
+    ∙ stream (asked used) (c .before .before .before .command13 .given .1)
+
+returns-21 : tie.Need-returns-21
+returns-21 c = first-of-three _ (lt-leb _ _ (c .if8 .left)) ∙ stream (asked (c .before .before .before .before)) (c .before .before .command13 .given .1)
 
 -- the variants of the last arm have no data
-returns-23 : tie.Need-returns-23
+returns-25 : tie.Need-returns-25
 unfolding entryOf legalOf
-returns-23 c =
-    let m = c .before .before .args .message in
+returns-25 c =
+    let m = asked (c .before) in
     let test : Command → Bool = λ x. legalOf (record { command = x; payload = m .payload }) in
     let tags : List ℕ = 0 ∷ fromTo 2 9 in
     sym (is-true (legalOf m) (of-tags test tags (λ a b d v w. tt) (m .command) (c .match .keys17)))
@@ -162,6 +204,10 @@ unfolding entryOf legalOf
 legal-spec =
     tie.close
     (tie.spec
+    (λ c κs. search needs)
+    (λ c. search needs)
+    (λ c. search needs)
+    part-used-end
     (λ c. search needs)
     (λ c. search needs)
     (λ c κs. search needs)
@@ -184,26 +230,28 @@ legal-spec =
     (λ c. search needs)
     (λ c. search needs)
     (λ c. search needs)
-    (λ c. byte-legal 11 _ ∙ legal-as (c .before .before .before .before .args .message) (c .before .command .given .1))
+    (λ c. byte-legal 11 _ ∙ legal-as (asked (c .before .before .before)) (c .before .command .given .1))
     returns-2
     returns-3
     returns-4
     returns-5
-    (λ c. byte-legal 7 _ ∙ legal-as (c .before .before .before .before .args .message) (c .before .command4 .given .1))
+    (λ c. byte-legal 7 _ ∙ legal-as (asked (c .before .before .before)) (c .before .command4 .given .1))
     returns-7
     returns-8
     returns-9
     returns-10
-    (λ c. byte-legal 7 _ ∙ legal-as (c .before .before .before .before .args .message) (c .before .command7 .given .1))
+    (λ c. byte-legal 7 _ ∙ legal-as (asked (c .before .before .before)) (c .before .command7 .given .1))
     returns-12
     returns-13
     returns-14
     returns-15
-    (λ c. byte-legal 15 _ ∙ legal-as (c .before .before .before .before .args .message) (c .before .command10 .given .1))
-    (λ c. byte-legal 42 _ ∙ legal-as (c .before .before .before .before .args .message) (c .before .command11 .given .1))
-    query
-    stream
-    (λ c. byte-legal 1 _ ∙ legal-as (c .before .before .before .before .args .message) (c .before .command14 .given .1))
-    (λ c. legal-as (c .before .before .before .args .message) (c .enum-told .given .1))
-    (λ c. legal-as (c .before .before .before .args .message) (c .enum-told2 .given .1))
-    returns-23)
+    (λ c. byte-legal 15 _ ∙ legal-as (asked (c .before .before .before)) (c .before .command10 .given .1))
+    (λ c. byte-legal 42 _ ∙ legal-as (asked (c .before .before .before)) (c .before .command11 .given .1))
+    returns-18
+    returns-19
+    returns-20
+    returns-21
+    (λ c. byte-legal 1 _ ∙ legal-as (asked (c .before .before .before)) (c .before .command14 .given .1))
+    (λ c. legal-as (asked (c .before .before)) (c .enum-told .given .1))
+    (λ c. legal-as (asked (c .before .before)) (c .enum-told2 .given .1))
+    returns-25)
