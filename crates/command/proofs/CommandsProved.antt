@@ -20,6 +20,7 @@ use Rattle.packet.specs.SizeTable.{sizeOf, groupOf}
 use Rattle.packet.specs.Answers.{listableOf, streamableOf}
 use Rattle.command.specs.Layout.{valueOf, formOf, refusalOf, payloadSize, headOf, payloadIn, encodeOf, readings, look, commandOf, decodeOf}
 use Rattle.command.specs.CommandTable.{isIn, isLegal, allLegal, entryOf, allowedOf, legalOf, writeReply}
+use Rattle.command.specs.Cases.{longestSong}
 use Rattle.command.specs.Commands.{CommandsInNumbers, inNoRow, unusedZero, DecodeTells, DecodingRight, message, WritingRight, messageAt, RoundTrip}
 use Rattle.command.specs.declared.Command.{Command}
 use Rattle.command.specs.declared.Message.{Message}
@@ -147,6 +148,10 @@ longest m =
     let s = small (m .command) in
     omega (arith, s .1 .1, length-append (headOf (m .command)) (payloadIn m), length-take (payloadSize (m .command)) (m .payload))
 
+longest-35 : (legalOf (longestSong .message) ≡ true) × (length (encodeOf (longestSong .message)) ≡ 35)
+unfolding encodeOf isIn isLegal entryOf legalOf
+longest-35 = (refl, refl)
+
 some-bytes : (m : Message) → 0 < length (encodeOf m)
 unfolding encodeOf
 some-bytes m = omega arith
@@ -165,6 +170,7 @@ writing-right =
       opcode-first = λ m. refl;
       some-bytes = some-bytes;
       longest = longest;
+      longest-35 = longest-35;
       are-bytes = frame-bytes;
     }
 

@@ -31,6 +31,10 @@ saysWith frame c payload = record { frame = frame; message = record { command = 
 abbrev says : List ℕ → Command → FrameCase
 says frame c = saysWith frame c []
 
+-- the longest frame's: 16 notes
+abbrev pub longestSong : FrameCase
+longestSong = saysWith (140 ∷ 15 ∷ 16 ∷ span 1 32) (Song 15 16) (span 1 32)
+
 -- each offered command, and both ways
 abbrev pub frameCases : List FrameCase
 frameCases =
@@ -51,8 +55,7 @@ frameCases =
     -- 004's example
     ∷ says (139 ∷ 8 ∷ 0 ∷ 128 ∷ []) (Leds 8 0 128)
     ∷ saysWith (140 ∷ 3 ∷ 2 ∷ 60 ∷ 32 ∷ 64 ∷ 16 ∷ []) (Song 3 2) (60 ∷ 32 ∷ 64 ∷ 16 ∷ [])
-    -- the longest frame
-    ∷ saysWith (140 ∷ 15 ∷ 16 ∷ span 1 32) (Song 15 16) (span 1 32)
+    ∷ longestSong
     ∷ says (141 ∷ 3 ∷ []) (Play 3)
     ∷ says (142 ∷ 6 ∷ []) (Sensors 6)
     ∷ says (143 ∷ []) Dock

@@ -76,12 +76,12 @@ speed = (minus 500 to pos 500) ∷ []
 abbrev pub radius : List Range
 radius = (minus 2000 to minus 1) ∷ (pos 1 to pos 2000) ∷ (pos 32767 to pos 32767) ∷ (minus 32768 to minus 32768) ∷ []
 
--- a payload of any bytes; a command that uses none has the empty one
-abbrev numbers : List (List Range) → LegalData
-numbers rss = record { numbers = rss; payload = allBytes }
+-- numbers in these ranges, and a payload of any bytes, which is empty where the command uses none
+abbrev ranges : List (List Range) → LegalData
+ranges rss = record { numbers = rss; payload = allBytes }
 
 abbrev none : LegalData
-none = numbers []
+none = ranges []
 
 -- ---- the table
 
@@ -98,28 +98,28 @@ row ops modes d = record { opcodes = ops; modes = modes; legal = map (λ op. d) 
 abbrev pub commandTable : List Row
 commandTable =
     row (128 ∷ []) allFour none
-    ∷ row (129 ∷ []) PSF (numbers (upTo 11 ∷ []))
+    ∷ row (129 ∷ []) PSF (ranges (upTo 11 ∷ []))
     ∷ row (130 ∷ []) P none
     ∷ row (131 ∷ 132 ∷ []) PSF none
     ∷ row (133 ∷ 136 ∷ []) SF none
     ∷ row (134 ∷ 135 ∷ 143 ∷ []) PSF none
     -- velocity, radius
-    ∷ row (137 ∷ []) SF (numbers (speed ∷ radius ∷ []))
+    ∷ row (137 ∷ []) SF (ranges (speed ∷ radius ∷ []))
     -- right, left
-    ∷ row (145 ∷ []) SF (numbers (speed ∷ speed ∷ []))
-    ∷ row (138 ∷ []) SF (numbers (upTo 7 ∷ []))
+    ∷ row (145 ∷ []) SF (ranges (speed ∷ speed ∷ []))
+    ∷ row (138 ∷ []) SF (ranges (upTo 7 ∷ []))
     -- for driver 2, 1, 0
-    ∷ row (144 ∷ []) SF (numbers (upTo 128 ∷ upTo 128 ∷ upTo 128 ∷ []))
-    ∷ row (139 ∷ []) SF (numbers (anyByte ∷ anyByte ∷ anyByte ∷ []))
-    ∷ record { opcodes = 147 ∷ 151 ∷ []; modes = SF; legal = numbers (upTo 7 ∷ []) ∷ numbers (anyByte ∷ []) ∷ [] }
+    ∷ row (144 ∷ []) SF (ranges (upTo 128 ∷ upTo 128 ∷ upTo 128 ∷ []))
+    ∷ row (139 ∷ []) SF (ranges (anyByte ∷ anyByte ∷ anyByte ∷ []))
+    ∷ record { opcodes = 147 ∷ 151 ∷ []; modes = SF; legal = ranges (upTo 7 ∷ []) ∷ ranges (anyByte ∷ []) ∷ [] }
     -- number, L, any notes
-    ∷ row (140 ∷ []) PSF (numbers (upTo 15 ∷ ((pos 1 to pos 16) ∷ []) ∷ []))
-    ∷ row (141 ∷ []) SF (numbers (upTo 15 ∷ []))
-    ∷ row (142 ∷ []) PSF (numbers (upTo 42 ∷ []))
+    ∷ row (140 ∷ []) PSF (ranges (upTo 15 ∷ ((pos 1 to pos 16) ∷ []) ∷ []))
+    ∷ row (141 ∷ []) SF (ranges (upTo 15 ∷ []))
+    ∷ row (142 ∷ []) PSF (ranges (upTo 42 ∷ []))
     -- N, ids by 149's rule; by 148's
     ∷ row (149 ∷ []) PSF (record { numbers = upTo 16 ∷ []; payload = listableOf })
     ∷ row (148 ∷ []) PSF (record { numbers = upTo 16 ∷ []; payload = streamableOf })
-    ∷ row (150 ∷ []) PSF (numbers (upTo 1 ∷ []))
+    ∷ row (150 ∷ []) PSF (ranges (upTo 1 ∷ []))
     ∷ []
 
 -- what a row says of an opcode

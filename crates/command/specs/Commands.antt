@@ -16,7 +16,7 @@ use Rattle.frame.specs.Push.{pushOf, emptyPartial, afterOf}
 use Rattle.frame.specs.Cut.{CompleteAtLast}
 use Rattle.command.specs.Layout.{opcodeOf, refusalOf, payloadSize, encodeOf, decodeOf}
 use Rattle.command.specs.CommandTable.{allowedOf, legalOf, writeReply}
-use Rattle.command.specs.Cases.{frameCases, otherCases, refusalRight, modeRight, byteCases, byteRight, dataCases, dataRight}
+use Rattle.command.specs.Cases.{longestSong, frameCases, otherCases, refusalRight, modeRight, byteCases, byteRight, dataCases, dataRight}
 use Rattle.command.specs.declared.Command.{Command}
 use Rattle.command.specs.declared.Command.the-variants.{Unknown, NotOffered}
 use Rattle.command.specs.declared.Message.{Message}
@@ -85,10 +85,11 @@ pub record WritingRight : Type 0 where
   -- a place that the command does not use makes no difference
   pub unused-ignored : (c : Command) (p q : List ℕ) → take (payloadSize c) p ≡ take (payloadSize c) q
       → (room : ℕ) → writeReply (message c p) room ≡ writeReply (message c q) room
-  -- a frame has its opcode, and at most 35 bytes; with a payload of bytes they are bytes
+  -- a frame begins with its opcode, and has at most 35 bytes, which is reached; with a payload of bytes they are bytes
   pub opcode-first : (m : Message) → getD (encodeOf m) 0 0 ≡ opcodeOf (m .command)
   pub some-bytes : (m : Message) → 0 < length (encodeOf m)
   pub longest : (m : Message) → length (encodeOf m) ≤ 35
+  pub longest-35 : (legalOf (longestSong .message) ≡ true) × (length (encodeOf (longestSong .message)) ≡ 35)
   pub are-bytes : (m : Message) → legalOf m ≡ true → T (allBytes (m .payload)) → T (allBytes (encodeOf m))
 
 -- the message of the frame that b completes after bs
