@@ -1,57 +1,86 @@
 -- The theorems of specs/Commands.antt.
 -- Assumes nothing.
-use mathlib.Core.Path.{_≡_, refl, sym, ap, subst, _∙_}
-use mathlib.Core.Bool.{true, _&&_}
-use mathlib.Core.List.{List, _++_, map}
-use Prim.Native.Nat.{ℕ, _-_, _*_, _≤_, _<_}
+use mathlib.Core.Path.{_≡_, refl, sym, ap, ap₂, subst, _∙_}
+use mathlib.Core.Bool.{true, _||_}
+use mathlib.Core.Logic.{⊎-elim}
+use mathlib.Core.List.{List, _++_, flatMap}
+use Prim.Native.Nat.{ℕ, _+_, _-_, _*_, _≤_, _<_}
 use native.Mathlib.Omega.{arith}
 use lib.Dec.{T, eqb, eqb→eq, eqb-refl}
 use lib.ListN.{length, getD, take, drop, replicate, length-append, length-take, length-drop, length-replicate}
-use lib.Seq.{length-take-le, drop-append-seam}
-use mir.Facts.{and-yes, yes-and}
+use lib.Seq.{length-take-le, take-at, take-add, drop-append-seam}
+use mir.Facts.{and-yes, or-yes, yes-and}
 use Rattle.wire.specs.Lists.{within, snoc, padded, isByte, allZero, allBytes, byteArray, isZero}
 use Rattle.wire.specs.Sixteen.{read16Of}
 use Rattle.wire.specs.Replies.{wrote, replyOf}
 use Rattle.wire.proofs.ListsLaws.{all-append, all-take, all-drop, all-replicate, byte-at}
 use Rattle.wire.proofs.RepliesLaws.{reply-4, reply-0, replies-tell}
-use Rattle.frame.specs.FrameTable.{dataLength}
+use Rattle.frame.specs.FrameTable.{dataLength, inNoRow}
 use Rattle.frame.specs.Cut.{CompleteAtLast}
 use Rattle.packet.specs.SizeTable.{sizeOf, groupOf}
 use Rattle.packet.specs.Answers.{listableOf, streamableOf}
-use Rattle.command.specs.Layout.{valueOf, formOf, refusalOf, payloadSize, headOf, payloadIn, encodeOf, readings, look, commandOf, decodeOf}
-use Rattle.command.specs.CommandTable.{isIn, isLegal, allLegal, entryOf, allowedOf, legalOf, writeReply}
+use Rattle.command.specs.Layout.{refusalOf, payloadSize, headOf, payloadIn, encodeOf, readings, commandFor, commandOf, decodeOf}
+use Rattle.command.specs.CommandTable.{isIn, isLegal, rowOf, allowedOf, legalOf, writeReply}
 use Rattle.command.specs.Cases.{longestSong}
-use Rattle.command.specs.Commands.{CommandsInNumbers, inNoRow, unusedZero, DecodeTells, DecodingRight, message, WritingRight, messageAt, RoundTrip}
+use Rattle.command.specs.Commands.{CommandsInNumbers, message, ModeColumn, DataColumn, unusedZero, DecodeTells, DecodingRight, WritingRight, messageAt, RoundTrip}
 use Rattle.command.specs.declared.Command.{Command}
 use Rattle.command.specs.declared.Message.{Message}
+use Rattle.command.proofs.VariantLaws.{every}
 use Rattle.command.proofs.LayoutLaws.{stored-none, small, says}
-use Rattle.command.proofs.CommandTableLaws.{alike}
-use Rattle.command.proofs.RoundTripLaws.{frame-bytes, written-complete, written-read, spelled, rewritten}
+use Rattle.command.proofs.CommandTableLaws.{no-other-mode, by-opcode, alike, drive-legal, direct-legal, duties-legal, leds-legal, song-is, query-legal, stream-legal, unused-free}
+use Rattle.command.proofs.RoundTripLaws.{frame-bytes, written-complete, written-read, spelled, head-kept, rewritten}
 
 pub commands-in-numbers : CommandsInNumbers
-unfolding read16Of replyOf sizeOf groupOf listableOf streamableOf encodeOf commandOf decodeOf isIn isLegal entryOf allowedOf legalOf
+unfolding flatMap read16Of replyOf sizeOf groupOf listableOf streamableOf encodeOf commandOf decodeOf isIn isLegal rowOf allowedOf legalOf
 commands-in-numbers =
     record {
       frames-read = refl;
       frames-written = refl;
       others-read = refl;
+      rows-in-order = refl;
       refusals-right = tt;
       modes-right = tt;
       bytes-right = tt;
       data-right = tt;
     }
 
+-- ---- the two columns
+
+pub mode-column : ModeColumn
+unfolding rowOf allowedOf
+mode-column =
+    record {
+      no-other-mode = no-other-mode;
+      by-opcode = by-opcode;
+      unknown-nowhere = λ op mode. refl;
+      not-offered-nowhere = λ op mode. refl;
+    }
+
+pub data-column : DataColumn
+unfolding rowOf legalOf
+data-column =
+    record {
+      drive-legal = drive-legal;
+      direct-legal = direct-legal;
+      duties-legal = duties-legal;
+      leds-legal = leds-legal;
+      song-legal = song-is;
+      query-legal = query-legal;
+      stream-legal = stream-legal;
+      unknown-illegal = λ op p. refl;
+      not-offered-illegal = λ op p. refl;
+      unused-free = unused-free;
+    }
+
 -- ---- decode
 
--- a list of bytes in the first of n places
-tidy : (n : ℕ) (l : List ℕ) → T (allBytes l) → length l ≤ n → T (byteArray n (padded n l) && allZero (drop (length l) (padded n l)))
-tidy n l t h =
+-- bytes in the first of n places make an array of bytes
+padded-array : (n : ℕ) (l : List ℕ) → T (allBytes l) → length l ≤ n → T (byteArray n (padded n l))
+padded-array n l t h =
     let zeros : List ℕ = replicate (n - length l) 0 in
     let e : length (padded n l) ≡ n = omega (arith, length-append l zeros, length-replicate {A = ℕ} (n - length l) 0) in
-    yes-and (byteArray n (padded n l)) (allZero (drop (length l) (padded n l)))
-    (yes-and (eqb (length (padded n l)) n) (allBytes (padded n l)) (rw e (eqb-refl n))
-    (all-append isByte l zeros t (all-replicate isByte (n - length l) 0 tt)))
-    (rw (drop-append-seam l zeros) (all-replicate isZero (n - length l) 0 tt))
+    yes-and (eqb (length (padded n l)) n) (allBytes (padded n l)) (rw e (eqb-refl n))
+    (all-append isByte l zeros t (all-replicate isByte (n - length l) 0 tt))
 
 module _ (bytes : List ℕ) (t : T (byteArray 35 bytes)) where
   abbrev c : Command
@@ -67,12 +96,12 @@ module _ (bytes : List ℕ) (t : T (byteArray 35 bytes)) where
   unknown-exactly : eqb (refusalOf c) 1 ≡ inNoRow (dataLength (d 0))
   unfolding dataLength commandOf
   unknown-exactly =
-      alike (λ op. eqb (refusalOf (look readings op (d 1) (d 2) (d 3) (d 4))) 1) (λ op. inNoRow (dataLength op)) tt (d 0) (byte-at bytes (array .1) 0)
+      alike (λ op. eqb (refusalOf (commandFor readings op (d 1) (d 2) (d 3) (d 4))) 1) (λ op. inNoRow (dataLength op)) tt (d 0) (byte-at bytes (array .1) 0)
 
   not-offered-exactly : eqb (refusalOf c) 2 ≡ within 152 158 (d 0)
   unfolding commandOf
   not-offered-exactly =
-      alike (λ op. eqb (refusalOf (look readings op (d 1) (d 2) (d 3) (d 4))) 2) (within 152 158) tt (d 0) (byte-at bytes (array .1) 0)
+      alike (λ op. eqb (refusalOf (commandFor readings op (d 1) (d 2) (d 3) (d 4))) 2) (within 152 158) tt (d 0) (byte-at bytes (array .1) 0)
 
   -- the payload in use, and the zeros after it
   abbrev used : List ℕ
@@ -90,14 +119,39 @@ module _ (bytes : List ℕ) (t : T (byteArray 35 bytes)) where
   rest-zero : T (unusedZero (decodeOf bytes))
   unfolding decodeOf
   rest-zero =
+      subst (λ (n : ℕ). T (allZero (drop n (padded 32 used)))) used-length
+      (rw (drop-append-seam used zeros) (all-replicate isZero (32 - length used) 0 tt))
+
+  payload-array : T (byteArray 32 (decodeOf bytes .payload))
+  unfolding decodeOf
+  payload-array =
       let s = small c in
-      let b = all-take isByte (payloadSize c) (drop (length (headOf c)) bytes) (all-drop isByte (length (headOf c)) bytes (array .1)) in
-      subst (λ (n : ℕ). T (byteArray 32 (padded 32 used) && allZero (drop n (padded 32 used)))) used-length
-      (tidy 32 used b (omega (arith, used-length, s .1 .0)))
+      padded-array 32 used
+      (all-take isByte (payloadSize c) (drop (length (headOf c)) bytes) (all-drop isByte (length (headOf c)) bytes (array .1)))
+      (omega (arith, used-length, s .1 .0))
+
+  -- the bytes before the payload are the frame's, and so are those in use
+  sent-again : encodeOf (decodeOf bytes) ≡ take (length (encodeOf (decodeOf bytes))) bytes
+  unfolding encodeOf decodeOf
+  sent-again =
+      let s = small c in
+      let l = eqb→eq (length bytes) 35 (array .0) in
+      let e : encodeOf (decodeOf bytes) ≡ take (length (headOf c) + payloadSize c) bytes =
+      ap₂ (λ (h u : List ℕ). h ++ u) (head-kept bytes (array .1) (omega (arith, s .0))) (take-at used zeros (payloadSize c) used-length)
+      ∙ sym (take-add (length (headOf c)) (payloadSize c) bytes) in
+      let n : length (encodeOf (decodeOf bytes)) ≡ length (headOf c) + payloadSize c =
+      ap length e ∙ length-take-le (length (headOf c) + payloadSize c) bytes (omega (arith, s .1 .1)) in
+      e ∙ ap (λ (k : ℕ). take k bytes) (sym n)
 
   no-payload : payloadSize c ≡ 0 → decodeOf bytes .payload ≡ replicate 32 0
   unfolding decodeOf
   no-payload e = ap (λ (n : ℕ). padded 32 (take n (drop (length (headOf c)) bytes))) e
+
+  refused-zero : (refusalOf c ≡ 0 → ⊥) → decodeOf bytes .payload ≡ replicate 32 0
+  refused-zero h =
+      let t = every (λ (x : Command). eqb (refusalOf x) 0 || eqb (payloadSize x) 0) (λ a b d v w. tt) c in
+      no-payload
+      (⊎-elim (λ z. absurd (h (eqb→eq (refusalOf c) 0 z))) (λ z. eqb→eq (payloadSize c) 0 z) (or-yes (eqb (refusalOf c) 0) (eqb (payloadSize c) 0) t))
 
   past-notes : d 0 ≡ 140 → 16 < d 2 → decodeOf bytes .payload ≡ replicate 32 0
   past-notes e h = no-payload (ap payloadSize (sym (says bytes e)) ∙ ap (λ (n : ℕ). 2 * n) (stored-none (d 2) h))
@@ -112,10 +166,13 @@ module _ (bytes : List ℕ) (t : T (byteArray 35 bytes)) where
   unfolding decodeOf
   decode-tells =
       record {
+        sent-again = sent-again;
         opcode-kept = spelled bytes (array .1) .opcode;
         unknown-exactly = unknown-exactly;
         not-offered-exactly = not-offered-exactly;
+        payload-array = payload-array;
         rest-zero = rest-zero;
+        refused-zero = refused-zero;
         past-notes = past-notes;
         past-query = past-query;
         past-stream = past-stream;
@@ -126,21 +183,14 @@ decoding-right = decode-tells
 
 -- ---- write
 
+same-frame : (c : Command) (p q : List ℕ) → take (payloadSize c) p ≡ take (payloadSize c) q → encodeOf (message c p) ≡ encodeOf (message c q)
+unfolding encodeOf
+same-frame c p q e = ap (λ (l : List ℕ). headOf c ++ l) e
+
 -- all that is judged and written is in the places in use
-module _ (k : Command) (p q : List ℕ) (e : take (payloadSize k) p ≡ take (payloadSize k) q) where
-  same-legal : legalOf (message k p) ≡ legalOf (message k q)
-  unfolding legalOf
-  same-legal =
-      let d = entryOf k .legal in
-      ap (λ (l : List ℕ). allLegal (d .numbers) (map valueOf (formOf k .items)) && d .payload l) e
-
-  same-frame : encodeOf (message k p) ≡ encodeOf (message k q)
-  unfolding encodeOf
-  same-frame = ap (λ (l : List ℕ). headOf k ++ l) e
-
-by-payload : (k : Command) (p q : List ℕ) → take (payloadSize k) p ≡ take (payloadSize k) q
-    → (room : ℕ) → writeReply (message k p) room ≡ writeReply (message k q) room
-by-payload k p q e room = rw (same-legal k p q e, same-frame k p q e) refl
+by-payload : (c : Command) (p q : List ℕ) → take (payloadSize c) p ≡ take (payloadSize c) q
+    → (room : ℕ) → writeReply (message c p) room ≡ writeReply (message c q) room
+by-payload c p q e room = rw (unused-free c p q e, same-frame c p q e) refl
 
 longest : (m : Message) → length (encodeOf m) ≤ 35
 unfolding encodeOf
@@ -149,7 +199,7 @@ longest m =
     omega (arith, s .1 .1, length-append (headOf (m .command)) (payloadIn m), length-take (payloadSize (m .command)) (m .payload))
 
 longest-35 : (legalOf (longestSong .message) ≡ true) × (length (encodeOf (longestSong .message)) ≡ 35)
-unfolding encodeOf isIn isLegal entryOf legalOf
+unfolding encodeOf isIn isLegal rowOf legalOf
 longest-35 = (refl, refl)
 
 some-bytes : (m : Message) → 0 < length (encodeOf m)
@@ -157,15 +207,13 @@ unfolding encodeOf
 some-bytes m = omega arith
 
 pub writing-right : WritingRight
-unfolding encodeOf entryOf allowedOf legalOf
+unfolding encodeOf rowOf legalOf
 writing-right =
     record {
       illegal-4 = λ m room e. reply-4 (encodeOf m) room e;
-      write-tells = λ m before after result x. replies-tell (legalOf m) (encodeOf m) before after result x;
       unknown-4 = λ op p room. reply-4 _ room refl;
       not-offered-4 = λ op p room. reply-4 _ room refl;
-      unknown-nowhere = λ op mode. refl;
-      not-offered-nowhere = λ op mode. refl;
+      write-tells = λ m before after result x. replies-tell (legalOf m) (encodeOf m) before after result x;
       unused-ignored = by-payload;
       opcode-first = λ m. refl;
       some-bytes = some-bytes;

@@ -16,7 +16,7 @@ use Rattle.wire.specs.Lists.{all, isByte, allBytes}
 use Rattle.wire.proofs.ListsLaws.{all-append}
 use Rattle.wire.proofs.SixteenLaws.{round-trip16}
 use Rattle.command.specs.Layout.{Item, byte, word, valueOf, sentAs, allSent, formOf, payloadIn}
-use Rattle.command.specs.CommandTable.{Range, isIn, isLegal, allLegal, entryOf, legalOf}
+use Rattle.command.specs.CommandTable.{Range, isIn, isLegal, allLegal, rowOf, legalOf}
 use Rattle.command.specs.declared.Command.{Command}
 use Rattle.command.specs.declared.Message.{Message}
 use Rattle.command.proofs.VariantLaws.{every}
@@ -89,14 +89,14 @@ legal-fit (rs ∷ rss) (word v ∷ is) t u =
     (legal-word v rs (s .0) (x .0), legal-fit rss is (s .1) (x .1))
 
 -- of every row, by one test over the variants
-all-kinds : (c : Command) → T (kinds (entryOf c .legal .numbers) (formOf c .items))
-unfolding entryOf
-all-kinds = every (λ (c : Command). kinds (entryOf c .legal .numbers) (formOf c .items)) (λ a b d v w. tt)
+all-kinds : (c : Command) → T (kinds (rowOf c .legal .numbers) (formOf c .items))
+unfolding rowOf
+all-kinds = every (λ (c : Command). kinds (rowOf c .legal .numbers) (formOf c .items)) (λ a b d v w. tt)
 
 pub numbers-fit : (m : Message) → T (legalOf m) → Fit (formOf (m .command) .items)
 unfolding legalOf
 numbers-fit m t =
-    let d = entryOf (m .command) .legal in
+    let d = rowOf (m .command) .legal in
     legal-fit (d .numbers) (formOf (m .command) .items) (all-kinds (m .command))
     (and-yes (allLegal (d .numbers) (map valueOf (formOf (m .command) .items))) (d .payload (payloadIn m)) t .0)
 

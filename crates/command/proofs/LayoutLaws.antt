@@ -14,7 +14,7 @@ use Rattle.wire.specs.Lists.{among, within, padded}
 use Rattle.wire.specs.Buffer.{Put}
 use Rattle.wire.proofs.BoolLaws.{le-or-lt}
 use Rattle.wire.proofs.BufferLaws.{overwrite-zeros, put-start, put-then}
-use Rattle.command.specs.Layout.{storedCount, payloadSize, headOf, headed, payloadIn, encodeOf, Reading, readings, otherwise, look, commandOf, decodeOf}
+use Rattle.command.specs.Layout.{storedCount, payloadSize, headOf, headed, payloadIn, encodeOf, Reading, readings, otherwise, commandFor, commandOf, decodeOf}
 use Rattle.command.specs.declared.Command.{Command}
 use Rattle.command.specs.declared.Command.the-variants.{Start, Baud, Control, Safe, Full, Power, Demo, Spot, Cover, Dock, Drive, Direct, Drivers, Duties, Leds, Outputs, Infrared, Song, Play, Sensors, QueryList, Stream, Pause, Unknown, NotOffered}
 use Rattle.command.specs.declared.Message.{Message}
@@ -76,9 +76,9 @@ head-as p e = p ∙ ap (λ (c : Command). headed (headOf c)) (sym e)
 
 -- an arm that knows the opcode
 pub says : (bytes : List ℕ) {op : ℕ} → getD bytes 0 0 ≡ op
-    → look readings op (getD bytes 1 0) (getD bytes 2 0) (getD bytes 3 0) (getD bytes 4 0) ≡ commandOf bytes
+    → commandFor readings op (getD bytes 1 0) (getD bytes 2 0) (getD bytes 3 0) (getD bytes 4 0) ≡ commandOf bytes
 unfolding commandOf
-says bytes e = sym (ap (λ (k : ℕ). look readings k (getD bytes 1 0) (getD bytes 2 0) (getD bytes 3 0) (getD bytes 4 0)) e)
+says bytes e = sym (ap (λ (k : ℕ). commandFor readings k (getD bytes 1 0) (getD bytes 2 0) (getD bytes 3 0) (getD bytes 4 0)) e)
 
 -- the opcodes that are read
 abbrev opcodes : List Reading → List ℕ
@@ -89,11 +89,11 @@ abbrev pub sort : ℕ → ℕ
 sort op = cond (among (opcodes readings) op) 0 (cond (within 152 158 op) 2 1)
 
 look-miss : (r : Reading) (rs : List Reading) (op a b c d : ℕ) (t : Bool) → eqb op (r .opcode) ≡ t → among (opcodes (r ∷ rs)) op ≡ false
-    → (among (opcodes rs) op ≡ false → look rs op a b c d ≡ otherwise op) → look (r ∷ rs) op a b c d ≡ otherwise op
+    → (among (opcodes rs) op ≡ false → commandFor rs op a b c d ≡ otherwise op) → commandFor (r ∷ rs) op a b c d ≡ otherwise op
 look-miss r rs op a b c d true t e f = cc (rw t at e)
 look-miss r rs op a b c d false t e f = simp t (f (rw t at e))
 
-look-none : (rs : List Reading) (op a b c d : ℕ) → among (opcodes rs) op ≡ false → look rs op a b c d ≡ otherwise op
+look-none : (rs : List Reading) (op a b c d : ℕ) → among (opcodes rs) op ≡ false → commandFor rs op a b c d ≡ otherwise op
 look-none [] op a b c d e = refl
 look-none (r ∷ rs) op a b c d e = look-miss r rs op a b c d (eqb op (r .opcode)) refl e (look-none rs op a b c d)
 

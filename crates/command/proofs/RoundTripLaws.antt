@@ -11,7 +11,7 @@ use lib.ListN.{length, getD, take, drop, replicate, length-drop, take-append-dro
 use lib.Seq.{length-take-le, getD-take, take-at, take-append-seam, drop-append-seam}
 use mir.Facts.{and-yes, yes-and}
 use borrow.Author.Tests.{le-leb, eqb-true}
-use Rattle.wire.specs.Lists.{span, within, snoc, padded, isByte, allBytes, byteArray, allZero}
+use Rattle.wire.specs.Lists.{span, within, snoc, padded, isByte, allBytes}
 use Rattle.wire.specs.Sixteen.{be16, read16Of}
 use Rattle.wire.proofs.BoolLaws.{to-T}
 use Rattle.wire.proofs.ListsLaws.{take-span, all-append, all-take, getD-zeros, byte-at, zeros-from}
@@ -26,9 +26,9 @@ use Rattle.frame.proofs.StoredLaws.{kept-all, kept-header}
 use Rattle.frame.proofs.PushLaws.{header-le-frame, Agree, length-agree, stores-agree}
 use Rattle.frame.proofs.CutProved.{complete-exactly, stored-as-sent}
 use Rattle.packet.specs.Answers.{listableOf, streamableOf}
-use Rattle.command.specs.Layout.{valueOf, allSent, formOf, opcodeOf, refusalOf, storedCount, payloadSize, headOf, payloadIn, encodeOf, Reading, readings, otherwise, look, commandOf, decodeOf}
-use Rattle.command.specs.CommandTable.{_to_, upTo, isLegal, allLegal, noEntry, entryOf, legalOf}
-use Rattle.command.specs.Commands.{unusedZero, message, messageAt}
+use Rattle.command.specs.Layout.{valueOf, allSent, formOf, opcodeOf, refusalOf, storedCount, payloadSize, headOf, payloadIn, encodeOf, Reading, readings, otherwise, commandFor, commandOf, decodeOf}
+use Rattle.command.specs.CommandTable.{_to_, upTo, isLegal, allLegal, noRow, rowOf, legalOf}
+use Rattle.command.specs.Commands.{message, messageAt, Sendable}
 use Rattle.command.specs.declared.Command.{Command}
 use Rattle.command.specs.declared.Message.{Message}
 use Rattle.command.specs.declared.Command.the-variants.{Start, Baud, Control, Safe, Full, Power, Demo, Spot, Cover, Dock, Drive, Direct, Drivers, Duties, Leds, Outputs, Infrared, Song, Play, Sensors, QueryList, Stream, Pause, Unknown, NotOffered}
@@ -65,7 +65,7 @@ notes-le number notes rule t =
     leb→le notes 16 (and-yes (leb 1 notes) (leb notes 16) (subst T (in-range 1 16 notes) (u .0)) .1)
 
 laid : (c : Command) (p : List ℕ) → Fit (formOf c .items) → T (legalOf (message c p)) → Laid c
-unfolding dataLength commandOf entryOf legalOf
+unfolding dataLength commandOf rowOf legalOf
 laid Start p f t = laid-as tt (λ r. refl) (λ r. refl) (λ r. refl)
 laid (Baud code) p f t = laid-as tt (λ r. refl) (λ r. refl) (λ r. refl)
 laid Control p f t = laid-as tt (λ r. refl) (λ r. refl) (λ r. refl)
@@ -130,54 +130,54 @@ module _ (m : Message) (legal : legalOf m ≡ true) where
       (sent-bytes (formOf (m .command) .items) (numbers-fit m (to-T (legalOf m) legal))))
       (all-take isByte (payloadSize (m .command)) (m .payload) t)
 
-  module _ (tidy : T (unusedZero m)) where
-    bytes-and-zeros : T (byteArray 32 (m .payload)) × T (allZero (drop (payloadSize (m .command)) (m .payload)))
-    bytes-and-zeros = and-yes (byteArray 32 (m .payload)) (allZero (drop (payloadSize (m .command)) (m .payload))) tidy
+module _ (m : Message) (sendable : Sendable m) where
+  array : T (eqb (length (m .payload)) 32) × T (allBytes (m .payload))
+  array = and-yes (eqb (length (m .payload)) 32) (allBytes (m .payload)) (sendable .array)
 
-    array : T (eqb (length (m .payload)) 32) × T (allBytes (m .payload))
-    array = and-yes (eqb (length (m .payload)) 32) (allBytes (m .payload)) (bytes-and-zeros .0)
+  laid-out : Laid (m .command)
+  laid-out = laid-of m (sendable .legal)
 
-    is-32 : length (m .payload) ≡ 32
-    is-32 = eqb→eq (length (m .payload)) 32 (array .0)
+  is-32 : length (m .payload) ≡ 32
+  is-32 = eqb→eq (length (m .payload)) 32 (array .0)
 
-    pub frame-sized : length (encodeOf m) ≡ frameSize (encodeOf m)
-    unfolding encodeOf
-    frame-sized = encode-length m is-32 ∙ sym (laid-of .size (payloadIn m))
+  frame-sized : length (encodeOf m) ≡ frameSize (encodeOf m)
+  unfolding encodeOf
+  frame-sized = encode-length m is-32 ∙ sym (laid-out .size (payloadIn m))
 
-    frame-stored : storesBody (encodeOf m) ≡ true
-    unfolding encodeOf
-    frame-stored = laid-of .stores (payloadIn m)
+  frame-stored : storesBody (encodeOf m) ≡ true
+  unfolding encodeOf
+  frame-stored = laid-out .stores (payloadIn m)
 
-    in-use : length (payloadIn m) ≡ payloadSize (m .command)
-    in-use = let s = small (m .command) in length-take-le (payloadSize (m .command)) (m .payload) (omega (arith, is-32, s .1 .0))
+  in-use : length (payloadIn m) ≡ payloadSize (m .command)
+  in-use = let s = small (m .command) in length-take-le (payloadSize (m .command)) (m .payload) (omega (arith, is-32, s .1 .0))
 
-    payload-whole : padded 32 (payloadIn m) ≡ m .payload
-    payload-whole =
-        let e : 32 - length (payloadIn m) ≡ length (m .payload) - payloadSize (m .command) = omega (arith, is-32, in-use) in
-        ap (λ (n : ℕ). payloadIn m ++ replicate n 0) e ∙ sym (zeros-from (m .payload) (payloadSize (m .command)) (bytes-and-zeros .1))
+  payload-whole : padded 32 (payloadIn m) ≡ m .payload
+  payload-whole =
+      let e : 32 - length (payloadIn m) ≡ length (m .payload) - payloadSize (m .command) = omega (arith, is-32, in-use) in
+      ap (λ (n : ℕ). payloadIn m ++ replicate n 0) e ∙ sym (zeros-from (m .payload) (payloadSize (m .command)) (sendable .unused))
 
-    pub frame-says : decodeOf (padded 35 (encodeOf m)) ≡ m
-    unfolding encodeOf
-    frame-says =
-        let zeros : List ℕ = replicate (35 - length (encodeOf m)) 0 in
-        let used : take (payloadSize (m .command)) (payloadIn m ++ zeros) ≡ payloadIn m = take-at (payloadIn m) zeros (payloadSize (m .command)) in-use in
-        ap decodeOf (append-assoc head (payloadIn m) zeros) ∙ decode-laid (m .command) laid-of (payloadIn m ++ zeros)
-        ∙ ap (λ (l : List ℕ). message (m .command) (padded 32 l)) used ∙ ap (message (m .command)) payload-whole
+  frame-says : decodeOf (padded 35 (encodeOf m)) ≡ m
+  unfolding encodeOf
+  frame-says =
+      let zeros : List ℕ = replicate (35 - length (encodeOf m)) 0 in
+      let used : take (payloadSize (m .command)) (payloadIn m ++ zeros) ≡ payloadIn m = take-at (payloadIn m) zeros (payloadSize (m .command)) in-use in
+      ap decodeOf (append-assoc (headOf (m .command)) (payloadIn m) zeros) ∙ decode-laid (m .command) laid-out (payloadIn m ++ zeros)
+      ∙ ap (λ (l : List ℕ). message (m .command) (padded 32 l)) used ∙ ap (message (m .command)) payload-whole
 
-    module _ (bs : List ℕ) (b : ℕ) (is : encodeOf m ≡ snoc bs b) where
-      before-last : T (allBytes bs)
-      before-last = first-bytes bs b (subst (λ (l : List ℕ). T (allBytes l)) is (frame-bytes (array .1)))
+  module _ (bs : List ℕ) (b : ℕ) (is : encodeOf m ≡ snoc bs b) where
+    before-last : T (allBytes bs)
+    before-last = first-bytes bs b (subst (λ (l : List ℕ). T (allBytes l)) is (frame-bytes m (sendable .legal) (array .1)))
 
-      sized-as : length (snoc bs b) ≡ frameSize (snoc bs b)
-      sized-as = subst (λ (l : List ℕ). length l ≡ frameSize l) is frame-sized
+    sized-as : length (snoc bs b) ≡ frameSize (snoc bs b)
+    sized-as = subst (λ (l : List ℕ). length l ≡ frameSize l) is frame-sized
 
-      pub written-complete : CompleteAtLast bs b
-      written-complete = complete-exactly .sized-completes bs b before-last sized-as
+    pub written-complete : CompleteAtLast bs b
+    written-complete = complete-exactly .sized-completes bs b before-last sized-as
 
-      pub written-read : messageAt bs b ≡ m
-      written-read =
-          let e : keptOf (snoc bs b) ≡ encodeOf m = ap keptOf (sym is) ∙ kept-all (encodeOf m) frame-stored in
-          at-last bs b before-last sized-as ∙ ap (λ (l : List ℕ). decodeOf (padded 35 l)) e ∙ frame-says
+    pub written-read : messageAt bs b ≡ m
+    written-read =
+        let e : keptOf (snoc bs b) ≡ encodeOf m = ap keptOf (sym is) ∙ kept-all (encodeOf m) frame-stored in
+        at-last bs b before-last sized-as ∙ ap (λ (l : List ℕ). decodeOf (padded 35 l)) e ∙ frame-says
 
 -- ---- read, then write
 
@@ -217,9 +217,9 @@ module _ (bytes : List ℕ) (t : T (allBytes bytes)) where
   look-one r c op true e s u = simp e (subst (λ (k : ℕ). Spelled bytes k (r .says (d 1) (d 2) (d 3) (d 4))) (sym (eqb-true op (r .opcode) e)) s)
   look-one r c op false e s u = simp e u
 
-  look-spelled : (rs : List Reading) (op : ℕ) → AllSpell rs → Spelled bytes op (look rs op (d 1) (d 2) (d 3) (d 4))
+  look-spelled : (rs : List Reading) (op : ℕ) → AllSpell rs → Spelled bytes op (commandFor rs op (d 1) (d 2) (d 3) (d 4))
   look-spelled [] op s = otherwise-spelled op
-  look-spelled (r ∷ rs) op s = look-one r (look rs op (d 1) (d 2) (d 3) (d 4)) op (eqb op (r .opcode)) refl (s .0) (look-spelled rs op (s .1))
+  look-spelled (r ∷ rs) op s = look-one r (commandFor rs op (d 1) (d 2) (d 3) (d 4)) op (eqb op (r .opcode)) refl (s .0) (look-spelled rs op (s .1))
 
   plain : {op : ℕ} {c : Command} → opcodeOf c ≡ op → allSent (formOf c .items) ≡ map (λ i. getD bytes i 0) (span 1 (length (allSent (formOf c .items))))
       → length (headOf c) ≡ least (dataLength op) → Spelled bytes op c
@@ -308,6 +308,11 @@ module _ (bytes : List ℕ) (t : T (allBytes bytes)) where
   unfolding commandOf
   spelled = look-spelled readings (d 0) all-spelled
 
+  pub head-kept : length (headOf (commandOf bytes)) ≤ length bytes → headOf (commandOf bytes) ≡ take (length (headOf (commandOf bytes))) bytes
+  head-kept h =
+      let k = length (allSent (formOf (commandOf bytes) .items)) in
+      ap₂ (λ (op : ℕ) (ns : List ℕ). op ∷ ns) (spelled .opcode) (spelled .sent) ∙ sym (take-span bytes 0 (suc k) (omega arith))
+
 least-le : (l : Length) (bytes : List ℕ) → least l ≤ frameSizeAs l bytes
 least-le (Fixed n) bytes = omega arith
 least-le Counted bytes = omega arith
@@ -322,17 +327,17 @@ least-header Song bytes e = refl
 least-header Unknown bytes e = cc
 
 -- legal data are an offered command's
-no-entry : (m : Message) → entryOf (m .command) ≡ noEntry → T (legalOf m) → ⊥
+no-row : (m : Message) → rowOf (m .command) ≡ noRow → T (legalOf m) → ⊥
 unfolding legalOf
-no-entry m e t = and-yes (allLegal [] (map valueOf (formOf (m .command) .items))) false (rw e at t) .1
+no-row m e t = and-yes (allLegal [] (map valueOf (formOf (m .command) .items))) false (rw e at t) .1
 
 legal-offered : (m : Message) → T (legalOf m) → refusalOf (m .command) ≡ 0
-unfolding entryOf
+unfolding rowOf
 legal-offered m t = go (eqb (refusalOf (m .command)) 0) refl
   where
     go : (w : Bool) → eqb (refusalOf (m .command)) 0 ≡ w → refusalOf (m .command) ≡ 0
     go true e = eqb-true (refusalOf (m .command)) 0 e
-    go false e = absurd (no-entry m (simp e) t)
+    go false e = absurd (no-row m (simp e) t)
 
 command-padded : (n : ℕ) (l : List ℕ) → commandOf (padded n l) ≡ commandOf l
 unfolding commandOf
@@ -360,14 +365,9 @@ module _ (l : List ℕ) (t : T (allBytes l)) (long : least (lengthOf l) ≤ leng
 
   -- they are its bytes, and what follows
   parts : headOf c ++ rest ≡ l
-  parts =
-      let s = spelled l t in
-      let k = length (allSent (formOf c .items)) in
-      let e : headOf c ≡ take (length (headOf c)) l =
-      ap₂ (λ (op : ℕ) (ns : List ℕ). op ∷ ns) (s .opcode) (s .sent) ∙ sym (take-span l 0 (suc k) (omega (arith, size))) in
-      ap (λ (h : List ℕ). h ++ rest) e ∙ take-append-drop (length (headOf c)) l
+  parts = ap (λ (h : List ℕ). h ++ rest) (head-kept l t (omega (arith, size))) ∙ take-append-drop (length (headOf c)) l
 
-  pub stored-said : storesBody l ≡ true
+  stored-said : storesBody l ≡ true
   stored-said = subst (λ (k : List ℕ). storesBody k ≡ true) parts (laid-said .stores rest)
 
   module _ (whole : length l ≡ frameSize l) where
@@ -376,7 +376,7 @@ module _ (l : List ℕ) (t : T (allBytes l)) (long : least (lengthOf l) ≤ leng
         let e = subst (λ (k : List ℕ). frameSize k ≡ length (headOf c) + payloadSize c) parts (laid-said .size rest) in
         omega (arith, length-drop (length (headOf c)) l)
 
-    pub rebuilt : encodeOf (decodeOf (padded 35 l)) ≡ l
+    rebuilt : encodeOf (decodeOf (padded 35 l)) ≡ l
     unfolding encodeOf
     rebuilt =
         let zeros : List ℕ = replicate (35 - length l) 0 in

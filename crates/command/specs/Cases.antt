@@ -1,22 +1,19 @@
--- Commands in numbers: what frames say, which modes they are for, and which data are legal. What the cases expect is written out, and cites no row
--- and no form of the rules.
+-- Commands in numbers: what frames say, which modes they are for, and which data are legal. What the cases expect is written out, and cites no row,
+-- no form and no range of the rules.
 -- Assumes nothing.
 use mathlib.Core.Bool.{Bool, true, false, not, cond, _&&_, Bool·beq}
 use mathlib.Core.List.{List, [], _∷_, _++_, map}
 use Prim.Native.Nat.{ℕ, _*_}
 use lib.Dec.{leb, eqb}
-use lib.IntN.{ℤ, pos, negℤ}
+use lib.IntN.{ℤ, pos}
 use lib.ListN.{length, getD, replicate}
 use Rattle.wire.specs.Lists.{all, allFrom, span, fromTo, among, within, padded}
-use Rattle.wire.specs.Sixteen.{be16}
+use Rattle.wire.specs.Sixteen.{minus, be16}
 use Rattle.command.specs.Layout.{refusalOf, commandOf, decodeOf}
 use Rattle.command.specs.CommandTable.{allowedOf, legalOf}
 use Rattle.command.specs.declared.Command.{Command}
 use Rattle.command.specs.declared.Command.the-variants.{Start, Baud, Control, Safe, Full, Power, Demo, Spot, Cover, Dock, Drive, Direct, Drivers, Duties, Leds, Outputs, Infrared, Song, Play, Sensors, QueryList, Stream, Pause, Unknown, NotOffered}
 use Rattle.command.specs.declared.Message.{Message}
-
-abbrev minus : ℕ → ℤ
-minus n = negℤ (pos n)
 
 -- ---- frames and what they say
 
@@ -73,16 +70,19 @@ frameCases =
     ∷ says (151 ∷ 255 ∷ []) (Infrared 255)
     ∷ []
 
--- bytes that are read, and whose message is not written. Past a legal count no place of the payload is in use, whatever stands there.
+-- bytes that are read, and whose message is not written. After a variant that is refused as such, and past a legal count, no place of the payload
+-- is in use, whatever stands there.
 abbrev pub otherCases : List FrameCase
 otherCases =
     says (0 ∷ []) (Unknown 0)
+    ∷ says (1 ∷ span 1 34) (Unknown 1)
     ∷ says (127 ∷ []) (Unknown 127)
     ∷ says (146 ∷ []) (Unknown 146)
     ∷ says (159 ∷ []) (Unknown 159)
     ∷ says (255 ∷ []) (Unknown 255)
     ∷ says (152 ∷ 2 ∷ []) (NotOffered 152)
     ∷ says (158 ∷ 7 ∷ []) (NotOffered 158)
+    ∷ says (155 ∷ span 1 34) (NotOffered 155)
     -- out of range, and read as they are: 32767, -501; a song number 16
     ∷ says (137 ∷ 127 ∷ 255 ∷ 254 ∷ 11 ∷ []) (Drive (pos 32767) (minus 501))
     ∷ saysWith (140 ∷ 16 ∷ 1 ∷ 60 ∷ 32 ∷ []) (Song 16 1) (60 ∷ 32 ∷ [])
@@ -99,16 +99,21 @@ refusalRight op =
     let expected : ℕ = cond (within 152 158 op) 2 (cond (within 128 151 op && not (eqb op 146)) 0 1) in
     eqb (refusalOf (commandOf (op ∷ []))) expected
 
--- the opcodes of each mode: Off, Passive, Safe, Full
-abbrev moving : List ℕ
-moving = 128 ∷ 129 ∷ (fromTo 131 145 ++ fromTo 147 151)
+-- document 01's opcodes, in the order of its rows
+abbrev pub rowOpcodes : List ℕ
+rowOpcodes =
+    128 ∷ 129 ∷ 130 ∷ 131 ∷ 132 ∷ 133 ∷ 136 ∷ 134 ∷ 135 ∷ 143 ∷ 137 ∷ 145 ∷ 138 ∷ 144 ∷ 139 ∷ 147 ∷ 151 ∷ 140 ∷ 141 ∷ 142 ∷ 149 ∷ 148 ∷ 150 ∷ []
 
+abbrev inSafeOrFull : List ℕ
+inSafeOrFull = 128 ∷ 129 ∷ (fromTo 131 145 ++ fromTo 147 151)
+
+-- the opcodes of each mode: Off, Passive, Safe, Full
 abbrev opcodesIn : List (List ℕ)
 opcodesIn =
     (128 ∷ [])
     ∷ (fromTo 128 132 ++ (134 ∷ 135 ∷ 140 ∷ 142 ∷ 143 ∷ 148 ∷ 149 ∷ 150 ∷ []))
-    ∷ moving
-    ∷ moving
+    ∷ inSafeOrFull
+    ∷ inSafeOrFull
     ∷ []
 
 abbrev pub modeRight : ℕ → ℕ → Bool
@@ -125,11 +130,11 @@ pub record ByteCase : Type 0 where
   pub opcode : ℕ
   pub most : ℕ
 
-abbrev upTo : ℕ → ℕ → ByteCase
-upTo op n = record { opcode = op; most = n }
+abbrev legalTo : ℕ → ℕ → ByteCase
+legalTo op n = record { opcode = op; most = n }
 
 abbrev pub byteCases : List ByteCase
-byteCases = upTo 129 11 ∷ upTo 138 7 ∷ upTo 147 7 ∷ upTo 151 255 ∷ upTo 141 15 ∷ upTo 142 42 ∷ upTo 150 1 ∷ []
+byteCases = legalTo 129 11 ∷ legalTo 138 7 ∷ legalTo 147 7 ∷ legalTo 151 255 ∷ legalTo 141 15 ∷ legalTo 142 42 ∷ legalTo 150 1 ∷ []
 
 abbrev pub byteRight : ByteCase → Bool
 byteRight c = allFrom (λ b. Bool·beq (dataLegal (c .opcode ∷ b ∷ [])) (leb b (c .most))) 0 256
@@ -142,8 +147,8 @@ pub record DataCase : Type 0 where
 abbrev taken : List (List ℕ) → DataCase
 taken fs = record { frames = fs; legal = true }
 
-abbrev refused : List (List ℕ) → DataCase
-refused fs = record { frames = fs; legal = false }
+abbrev notTaken : List (List ℕ) → DataCase
+notTaken fs = record { frames = fs; legal = false }
 
 abbrev words : ℕ → ℤ → ℤ → List ℕ
 words op v w = op ∷ (be16 v ++ be16 w)
@@ -175,7 +180,7 @@ abbrev makes256 : List ℕ
 makes256 = 6 ∷ 6 ∷ 6 ∷ 6 ∷ 0 ∷ 1 ∷ 19 ∷ 19 ∷ []
 
 abbrev idLists : List (List ℕ)
-idLists = [] ∷ (0 ∷ []) ∷ (42 ∷ []) ∷ replicate 15 7 ∷ replicate 16 42 ∷ makes255 ∷ []
+idLists = [] ∷ (0 ∷ []) ∷ (1 ∷ 41 ∷ []) ∷ (42 ∷ []) ∷ replicate 15 7 ∷ replicate 16 42 ∷ makes255 ∷ []
 
 abbrev notIdLists : List (List ℕ)
 notIdLists = (43 ∷ []) ∷ (255 ∷ []) ∷ (7 ∷ 43 ∷ []) ∷ replicate 17 7 ∷ replicate 18 7 ∷ []
@@ -183,31 +188,33 @@ notIdLists = (43 ∷ []) ∷ (255 ∷ []) ∷ (7 ∷ 43 ∷ []) ∷ replicate 17
 abbrev pub dataCases : List DataCase
 dataCases =
     taken (map (λ v. words 137 v (pos 500)) speeds)
-    ∷ refused (map (λ v. words 137 v (pos 500)) notSpeeds)
+    ∷ notTaken (map (λ v. words 137 v (pos 500)) notSpeeds)
     ∷ taken (map (words 137 (minus 200)) radii)
-    ∷ refused (map (words 137 (minus 200)) notRadii)
+    ∷ notTaken (map (words 137 (minus 200)) notRadii)
     ∷ taken (map (λ v. words 145 v (pos 0)) speeds)
-    ∷ refused (map (λ v. words 145 v (pos 0)) notSpeeds)
+    ∷ notTaken (map (λ v. words 145 v (pos 0)) notSpeeds)
     ∷ taken (map (words 145 (minus 500)) speeds)
-    ∷ refused (map (words 145 (minus 500)) notSpeeds)
+    ∷ notTaken (map (words 145 (minus 500)) notSpeeds)
     -- duties
-    ∷ taken ((144 ∷ 0 ∷ 127 ∷ 128 ∷ []) ∷ (144 ∷ 128 ∷ 128 ∷ 0 ∷ []) ∷ [])
-    ∷ refused ((144 ∷ 129 ∷ 0 ∷ 0 ∷ []) ∷ (144 ∷ 0 ∷ 129 ∷ 0 ∷ []) ∷ (144 ∷ 0 ∷ 0 ∷ 129 ∷ []) ∷ (144 ∷ 255 ∷ 255 ∷ 255 ∷ []) ∷ [])
+    ∷ taken ((144 ∷ 0 ∷ 127 ∷ 128 ∷ []) ∷ (144 ∷ 128 ∷ 1 ∷ 127 ∷ []) ∷ (144 ∷ 127 ∷ 128 ∷ 0 ∷ []) ∷ (144 ∷ 1 ∷ 0 ∷ 1 ∷ []) ∷ [])
+    ∷ notTaken ((144 ∷ 129 ∷ 0 ∷ 0 ∷ []) ∷ (144 ∷ 0 ∷ 129 ∷ 0 ∷ []) ∷ (144 ∷ 0 ∷ 0 ∷ 129 ∷ []) ∷ (144 ∷ 255 ∷ 255 ∷ 255 ∷ []) ∷ [])
     -- any three bytes
     ∷ taken ((139 ∷ 0 ∷ 0 ∷ 0 ∷ []) ∷ (139 ∷ 255 ∷ 255 ∷ 255 ∷ []) ∷ [])
     -- songs; W8
-    ∷ taken (song 0 1 ∷ song 0 2 ∷ song 14 15 ∷ song 15 16 ∷ [])
-    ∷ refused (song 0 0 ∷ song 0 17 ∷ song 0 18 ∷ (140 ∷ 0 ∷ 255 ∷ []) ∷ song 16 1 ∷ song 17 16 ∷ (140 ∷ 255 ∷ 1 ∷ 0 ∷ 0 ∷ []) ∷ [])
+    ∷ taken (song 0 1 ∷ song 1 2 ∷ song 14 15 ∷ song 15 16 ∷ (140 ∷ 0 ∷ 1 ∷ 0 ∷ 0 ∷ []) ∷ [])
+    ∷ notTaken (song 0 0 ∷ song 0 17 ∷ song 0 18 ∷ (140 ∷ 0 ∷ 255 ∷ []) ∷ song 16 1 ∷ song 17 16 ∷ (140 ∷ 255 ∷ 1 ∷ 0 ∷ 0 ∷ []) ∷ [])
     -- lists; W12
     ∷ taken (map (list 149) idLists)
-    ∷ refused (map (list 149) notIdLists)
+    ∷ notTaken (map (list 149) notIdLists)
     ∷ taken (list 149 makes256 ∷ list 149 (replicate 16 6) ∷ [])
     ∷ taken (map (list 148) idLists)
-    ∷ refused (map (list 148) notIdLists)
+    ∷ notTaken (map (list 148) notIdLists)
     ∷ taken (list 148 (replicate 4 6) ∷ [])
-    ∷ refused (list 148 (replicate 5 6) ∷ list 148 makes256 ∷ list 148 (replicate 16 6) ∷ [])
+    ∷ notTaken (list 148 (replicate 5 6) ∷ list 148 makes256 ∷ list 148 (replicate 16 6) ∷ [])
+    -- a count alone, past the legal ones
+    ∷ notTaken ((148 ∷ 17 ∷ []) ∷ (148 ∷ 255 ∷ []) ∷ (149 ∷ 17 ∷ []) ∷ (149 ∷ 255 ∷ []) ∷ [])
     -- what is refused as such
-    ∷ refused ((127 ∷ []) ∷ (146 ∷ []) ∷ (152 ∷ 0 ∷ []) ∷ (158 ∷ 0 ∷ []) ∷ (255 ∷ []) ∷ [])
+    ∷ notTaken ((127 ∷ []) ∷ (146 ∷ []) ∷ (152 ∷ 0 ∷ []) ∷ (158 ∷ 0 ∷ []) ∷ (255 ∷ []) ∷ [])
     ∷ []
 
 abbrev pub dataRight : DataCase → Bool

@@ -4,9 +4,10 @@ use mathlib.Core.Bool.{Bool, true, false, cond, _&&_, _||_}
 use mathlib.Core.List.{List, [], _∷_, map}
 use Prim.Native.Nat.{ℕ}
 use lib.Dec.{eqb}
-use lib.IntN.{ℤ, pos, negℤ}
+use lib.IntN.{ℤ, pos}
 use lib.Signed.{leZ}
 use Rattle.wire.specs.Lists.{among, allBytes}
+use Rattle.wire.specs.Sixteen.{minus}
 use Rattle.wire.specs.Replies.{Reply, replyOf}
 use Rattle.packet.specs.Answers.{listableOf, streamableOf}
 use Rattle.command.specs.Layout.{valueOf, formOf, opcodeOf, refusalOf, payloadIn, encodeOf}
@@ -58,9 +59,6 @@ allLegal [] (v ∷ vs) = false
 allLegal (rs ∷ rss) [] = false
 allLegal (rs ∷ rss) (v ∷ vs) = isLegal rs v && allLegal rss vs
 
-abbrev minus : ℕ → ℤ
-minus n = negℤ (pos n)
-
 -- 0 to n
 abbrev pub upTo : ℕ → List Range
 upTo n = (pos 0 to pos n) ∷ []
@@ -85,14 +83,21 @@ none = ranges []
 
 -- ---- the table
 
--- a row: its opcodes, its modes, and the legal data of each opcode
-pub record Row : Type 0 where
-  pub opcodes : List ℕ
-  pub modes : List ℕ
-  pub legal : List LegalData
+-- one opcode of a row, and its legal data
+pub record Entry : Type 0 where
+  pub opcode : ℕ
+  pub legal : LegalData
 
+pub record Row : Type 0 where
+  pub entries : List Entry
+  pub modes : List ℕ
+
+abbrev entry : ℕ → LegalData → Entry
+entry op d = record { opcode = op; legal = d }
+
+-- opcodes that share their legal data
 abbrev row : List ℕ → List ℕ → LegalData → Row
-row ops modes d = record { opcodes = ops; modes = modes; legal = map (λ op. d) ops }
+row ops modes d = record { entries = map (λ op. entry op d) ops; modes = modes }
 
 -- document 01's rows, in its order
 abbrev pub commandTable : List Row
@@ -111,49 +116,50 @@ commandTable =
     -- for driver 2, 1, 0
     ∷ row (144 ∷ []) SF (ranges (upTo 128 ∷ upTo 128 ∷ upTo 128 ∷ []))
     ∷ row (139 ∷ []) SF (ranges (anyByte ∷ anyByte ∷ anyByte ∷ []))
-    ∷ record { opcodes = 147 ∷ 151 ∷ []; modes = SF; legal = ranges (upTo 7 ∷ []) ∷ ranges (anyByte ∷ []) ∷ [] }
+    ∷ record { entries = entry 147 (ranges (upTo 7 ∷ [])) ∷ entry 151 (ranges (anyByte ∷ [])) ∷ []; modes = SF }
     -- number, L, any notes
     ∷ row (140 ∷ []) PSF (ranges (upTo 15 ∷ ((pos 1 to pos 16) ∷ []) ∷ []))
     ∷ row (141 ∷ []) SF (ranges (upTo 15 ∷ []))
     ∷ row (142 ∷ []) PSF (ranges (upTo 42 ∷ []))
-    -- N, ids by 149's rule; by 148's
+    -- N, and the ids by 149's rule
     ∷ row (149 ∷ []) PSF (record { numbers = upTo 16 ∷ []; payload = listableOf })
+    -- N, and the ids by 148's
     ∷ row (148 ∷ []) PSF (record { numbers = upTo 16 ∷ []; payload = streamableOf })
     ∷ row (150 ∷ []) PSF (ranges (upTo 1 ∷ []))
     ∷ []
 
--- what a row says of an opcode
-pub record Entry : Type 0 where
+-- what the rows say of an opcode
+pub record Judged : Type 0 where
   pub modes : List ℕ
   pub legal : LegalData
 
 -- no mode, and no legal data
-abbrev pub noEntry : Entry
-noEntry = record { modes = []; legal = record { numbers = []; payload = λ bytes. false } }
+abbrev pub noRow : Judged
+noRow = record { modes = []; legal = record { numbers = []; payload = λ bytes. false } }
 
-abbrev inRow : List ℕ → List ℕ → List LegalData → ℕ → Entry → Entry
-inRow modes [] ds op other = other
-inRow modes (k ∷ ks) [] op other = other
-inRow modes (k ∷ ks) (d ∷ ds) op other = cond (eqb op k) (record { modes = modes; legal = d }) (inRow modes ks ds op other)
+-- the first of these entries that has the opcode, or else what comes after
+abbrev inRow : List ℕ → List Entry → ℕ → Judged → Judged
+inRow modes [] op after = after
+inRow modes (e ∷ es) op after = cond (eqb op (e .opcode)) (record { modes = modes; legal = e .legal }) (inRow modes es op after)
 
-abbrev pub look : List Row → ℕ → Entry
-look [] op = noEntry
-look (r ∷ rs) op = inRow (r .modes) (r .opcodes) (r .legal) op (look rs op)
+abbrev pub rowFor : List Row → ℕ → Judged
+rowFor [] op = noRow
+rowFor (r ∷ rs) op = inRow (r .modes) (r .entries) op (rowFor rs op)
 
--- a command's entry; a variant that is refused as such has none, whatever its opcode
-unfoldable pub entryOf : Command → Entry
-entryOf c = cond (eqb (refusalOf c) 0) (look commandTable (opcodeOf c)) noEntry
+-- what they say of a command; a variant that is refused as such has no row, whatever its opcode
+unfoldable pub rowOf : Command → Judged
+rowOf c = cond (eqb (refusalOf c) 0) (rowFor commandTable (opcodeOf c)) noRow
 
 -- ---- what the contracts cite
 
 -- the column of modes
 unfoldable pub allowedOf : Command → ℕ → Bool
-allowedOf c mode = among (entryOf c .modes) mode
+allowedOf c mode = among (rowOf c .modes) mode
 
 -- the column of legal data
 unfoldable pub legalOf : Message → Bool
 legalOf m =
-    let d = entryOf (m .command) .legal in
+    let d = rowOf (m .command) .legal in
     allLegal (d .numbers) (map valueOf (formOf (m .command) .items)) && d .payload (payloadIn m)
 
 -- what the writer gives back, by the room in the buffer: 4 for anything but an offered command with legal data, then 7, then the frame

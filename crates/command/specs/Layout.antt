@@ -100,7 +100,7 @@ payloadSize c = formOf c .uses
 abbrev pub headOf : Command → List ℕ
 headOf c = opcodeOf c ∷ allSent (formOf c .items)
 
--- as the code has them
+-- in the first of five places, for the contracts of the functions that make them
 abbrev pub headed : List ℕ → Head
 headed bytes = record { bytes = padded 5 bytes; size = length bytes }
 
@@ -114,7 +114,7 @@ encodeOf m = headOf (m .command) ++ payloadIn m
 
 -- ---- reading
 
--- what a frame of an opcode says, by its first four data bytes
+-- what a frame of an opcode says, by its first four data bytes. It is written out, and not derived from the forms, so that the round trip compares the two.
 pub record Reading : Type 0 where
   pub opcode : ℕ
   pub says : ℕ → ℕ → ℕ → ℕ → Command
@@ -154,12 +154,12 @@ readings =
 abbrev pub otherwise : ℕ → Command
 otherwise op = cond (within 152 158 op) (NotOffered op) (Unknown op)
 
-abbrev pub look : List Reading → ℕ → ℕ → ℕ → ℕ → ℕ → Command
-look [] op a b c d = otherwise op
-look (r ∷ rs) op a b c d = cond (eqb op (r .opcode)) (r .says a b c d) (look rs op a b c d)
+abbrev pub commandFor : List Reading → ℕ → ℕ → ℕ → ℕ → ℕ → Command
+commandFor [] op a b c d = otherwise op
+commandFor (r ∷ rs) op a b c d = cond (eqb op (r .opcode)) (r .says a b c d) (commandFor rs op a b c d)
 
 unfoldable pub commandOf : List ℕ → Command
-commandOf bytes = look readings (getD bytes 0 0) (getD bytes 1 0) (getD bytes 2 0) (getD bytes 3 0) (getD bytes 4 0)
+commandOf bytes = commandFor readings (getD bytes 0 0) (getD bytes 1 0) (getD bytes 2 0) (getD bytes 3 0) (getD bytes 4 0)
 
 -- the message of a frame: its command, and the payload that follows the command's bytes, with 0 in the places that are not in use. Past a legal
 -- count, where the papers leave it free, no place is in use.

@@ -34,37 +34,51 @@ use wire::Sent;
 // A command, with its numbers as a host thinks of them, in the order in which they are sent. Notes and ids, which an enum can't hold, stand
 // beside it in a message.
 pub enum Command {
+    // 128
     Start,
-    // A code for the serial speed.
+    // 129: a code for the serial speed.
     Baud(u8),
+    // 130
     Control,
+    // 131
     Safe,
+    // 132
     Full,
+    // 133
     Power,
+    // 136
     Demo,
+    // 134
     Spot,
+    // 135
     Cover,
+    // 143
     Dock,
-    // Velocity and radius.
+    // 137: velocity and radius.
     Drive(i16, i16),
-    // Right and left.
+    // 145: right and left.
     Direct(i16, i16),
-    // A bit for each driver output.
+    // 138: a bit for each driver output.
     Drivers(u8),
-    // Of driver 2, 1 and 0.
+    // 144: of driver 2, 1 and 0.
     Duties(u8, u8, u8),
-    // Bits, color and intensity.
+    // 139: bits, color and intensity.
     Leds(u8, u8, u8),
+    // 147
     Outputs(u8),
+    // 151
     Infrared(u8),
-    // Its number, and its length in notes; a note is two bytes of the payload.
+    // 140: its number, and its length in notes; a note is two bytes of the payload.
     Song(u8, u8),
+    // 141
     Play(u8),
+    // 142
     Sensors(u8),
-    // Document 01: List. How many ids of the payload it has.
+    // 149, document 01's List: how many ids of the payload it has.
     QueryList(u8),
+    // 148: how many ids.
     Stream(u8),
-    // 0 off, 1 on.
+    // 150: 0 off, 1 on.
     Pause(u8),
     // An opcode that is not in the frame table.
     Unknown(u8),
@@ -84,6 +98,7 @@ struct Head {
     size: usize,
 }
 
+// The most notes of a song, and the most ids of a list, that are legal.
 const LEGAL_COUNT: u8 = 16;
 
 // How many of a count's notes or ids are there: past a legal count none is stored.
@@ -277,7 +292,7 @@ pub fn legal(message: Message) -> bool
         Command::Drivers(bits) => bits <= 7,
         Command::Duties(driver2, driver1, driver0) => driver2 <= 128
             && (driver1 <= 128 && driver0 <= 128),
-        // Any bytes; they are bound for what their type says of them.
+        // Any bytes. They are named, since the proof needs that each is one.
         Command::Leds(_bits, _color, _intensity) => true,
         Command::Outputs(bits) => bits <= 7,
         Command::Infrared(_code) => true,
@@ -300,7 +315,7 @@ const SAFE: u8 = 2;
 
 const FULL: u8 = 3;
 
-// A mode from this one up.
+// A mode from this one to Full.
 fn from_mode(first: u8, mode: u8) -> bool
     ensures { λ r. ⌜ r ≡ within first 3 mode ⌝ }
 {

@@ -1,6 +1,6 @@
 -- The frame table (document 01, 'Cutting bytes into frames'): how many data bytes an opcode has.
 -- Assumes nothing.
-use mathlib.Core.Bool.{cond}
+use mathlib.Core.Bool.{Bool, true, false, cond}
 use mathlib.Core.List.{List, [], _∷_, _++_}
 use Prim.Native.Nat.{ℕ, _+_, _*_}
 use lib.ListN.{getD}
@@ -50,3 +50,10 @@ headerSize (Fixed n) = 1
 headerSize Counted = 2
 headerSize Song = 3
 headerSize Unknown = 1
+
+-- an opcode of this length is in no row
+abbrev pub inNoRow : Length → Bool
+inNoRow (Fixed n) = false
+inNoRow Counted = false
+inNoRow Song = false
+inNoRow Unknown = true

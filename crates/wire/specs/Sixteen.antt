@@ -5,9 +5,13 @@ use mathlib.Core.Bool.{cond}
 use mathlib.Core.List.{List, [], _∷_}
 use Prim.Native.Nat.{ℕ, _+_, _-_, _*_, _/_, _%_, _<_}
 use lib.Dec.{ltb}
-use lib.IntN.{ℤ, pos, negsuc}
+use lib.IntN.{ℤ, pos, negsuc, negℤ}
 use mir.Syntax.{w16}
 use mir.Val.{SFits}
+
+-- a negative number
+abbrev pub minus : ℕ → ℤ
+minus n = negℤ (pos n)
 
 -- the sixteen bits of a number, read without a sign; negsuc n is -(n + 1)
 abbrev pub bits16Of : ℤ → ℕ

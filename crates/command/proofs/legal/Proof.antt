@@ -3,28 +3,28 @@
 use mathlib.Core.Path.{_≡_, sym, ap, _∙_}
 use mathlib.Core.Bool.{Bool, true, _&&_}
 use mathlib.Core.List.{List, _∷_}
-use Prim.Native.Nat.{ℕ, _-_, _*_, _≤_, _<_}
+use Prim.Native.Nat.{ℕ, _-_, _≤_, _<_}
 use native.Mathlib.Nat.{sub-zero}
 use native.Mathlib.Omega.{arith}
-use lib.Dec.{leb}
+use lib.Dec.{T, leb}
 use lib.ListN.{length, getD, take}
 use mir.Syntax.{w8, w16}
 use mir.Val.{Fits}
 use mir.ValLaws.{toZ-ofZ}
 use borrow.Author.Needs.{needs}
 use borrow.Author.Tests.{le-leb, lt-leb}
-use Rattle.wire.specs.Lists.{fromTo, isByte, allBytes}
+use Rattle.wire.specs.Lists.{fromTo, allBytes}
 use Rattle.wire.proofs.BoolLaws.{is-true, to-T}
-use Rattle.wire.proofs.ListsLaws.{all-take, bytes-true}
+use Rattle.wire.proofs.ListsLaws.{bytes-true}
 use Rattle.packet.specs.Answers.{listableOf, streamableOf}
 use Rattle.command.specs.Layout.{storedCount, payloadSize, payloadIn}
-use Rattle.command.specs.CommandTable.{isLegal, speed, entryOf, legalOf}
+use Rattle.command.specs.CommandTable.{isLegal, speed, rowOf, legalOf}
 use Rattle.command.specs.declared.Command.{Command}
 use Rattle.command.specs.declared.Command.the-variants.{Duties, Song, QueryList, Stream}
 use Rattle.command.specs.declared.Message.{Message}
 use Rattle.command.proofs.VariantLaws.{of-tags}
 use Rattle.command.proofs.LayoutLaws.{small}
-use Rattle.command.proofs.CommandTableLaws.{legal-as, byte-legal, bytes-legal, song-legal, ids-legal, first-decides, second-decides, first-of-three, second-of-three, third-of-three, last-decides}
+use Rattle.command.proofs.CommandTableLaws.{legal-as, byte-legal, bytes-legal, ids-legal, duties-legal, song-is, first-decides, second-decides, first-of-three, second-of-three, third-of-three, last-decides}
 use Rattle.command.proofs.legal.Statement.{statement}
 use Rattle.command.proofs.legal.Tie as tie
 
@@ -41,11 +41,11 @@ part-used-end c =
     x
 
 -- the array's elements are bytes
-any-notes : (c : tie.Start) (n : ℕ) → allBytes (take n (c .args .message .payload)) ≡ true
-any-notes c n =
+any-notes : (c : tie.Start) → T (allBytes (c .args .message .payload))
+any-notes c =
     let l = c .args .message .payload in
     let each : (i : ℕ) → getD l i 0 < 256 = λ i. (let f : Fits w8 (getD l i 0) = search needs in omega arith) in
-    is-true (allBytes (take n l)) (all-take isByte n l (to-T (allBytes l) (bytes-true l each)))
+    to-T (allBytes l) (bytes-true l each)
 
 -- the first of a Drive's numbers, and of a Direct's
 velocity : (c : tie.After-is-speed) → c .is-speed .result ≡ isLegal speed (c .before .before .command2 .given .0 .0)
@@ -59,7 +59,7 @@ right c =
     rw (toZ-ofZ w16 (e .0 .0) (record { sfits = c .before .known-told3 .given .0 .1 })) at (c .is-speed2 .ensures)
 
 returns-2 : tie.Need-returns-2
-unfolding entryOf legalOf
+unfolding rowOf legalOf
 returns-2 c =
     let first = c .before .before in
     let e = first .before .before .command2 .given in
@@ -67,7 +67,7 @@ returns-2 c =
     r ∙ second-decides (sym (velocity first) ∙ c .before .if1 .taken) ∙ legal-as (asked (first .before .before .before .before)) (e .1)
 
 returns-3 : tie.Need-returns-3
-unfolding entryOf legalOf
+unfolding rowOf legalOf
 returns-3 c =
     let first = c .before in
     let e = first .before .before .command2 .given in
@@ -75,7 +75,7 @@ returns-3 c =
     ∙ legal-as (asked (first .before .before .before .before)) (e .1)
 
 returns-4 : tie.Need-returns-4
-unfolding entryOf legalOf
+unfolding rowOf legalOf
 returns-4 c =
     let first = c .before .before in
     let e = first .before .before .command3 .given in
@@ -83,7 +83,7 @@ returns-4 c =
     r ∙ second-decides (sym (right first) ∙ c .before .if2 .taken) ∙ legal-as (asked (first .before .before .before .before)) (e .1)
 
 returns-5 : tie.Need-returns-5
-unfolding entryOf legalOf
+unfolding rowOf legalOf
 returns-5 c =
     let first = c .before in
     let e = first .before .before .command3 .given in
@@ -92,8 +92,7 @@ returns-5 c =
 
 -- the three duties, as they are tested
 duties : (m : Message) {a b d : ℕ} → m .command ≡ Duties a b d → (leb a 128 && (leb b 128 && leb d 128)) ≡ legalOf m
-unfolding entryOf legalOf
-duties m {a} {b} {d} e = bytes-legal 128 a b d ∙ legal-as m e
+duties m {a} {b} {d} e = sym (duties-legal a b d (m .payload)) ∙ legal-as m e
 
 returns-7 : tie.Need-returns-7
 returns-7 c =
@@ -113,7 +112,7 @@ returns-9 c =
     first-of-three _ (lt-leb _ _ (c .if3 .left)) ∙ duties (asked (c .before .before .before .before)) (e .1)
 
 returns-10 : tie.Need-returns-10
-unfolding entryOf legalOf
+unfolding rowOf legalOf
 returns-10 c =
     let e = c .before .command6 .given in
     let f : Fits w8 (e .0 .0) = search needs in
@@ -124,7 +123,7 @@ returns-10 c =
     sym d ∙ bytes-legal 255 _ _ _ ∙ legal-as (asked (c .before .before .before)) (e .1)
 
 returns-12 : tie.Need-returns-12
-unfolding entryOf legalOf
+unfolding rowOf legalOf
 returns-12 c =
     let e = c .before .command8 .given in
     let f : Fits w8 (e .0 .0) = search needs in
@@ -132,10 +131,8 @@ returns-12 c =
 
 -- a song's number and length, as they are tested
 song : (c : tie.After-used) {number notes : ℕ} → asked c .command ≡ Song number notes → (leb number 15 && (leb 1 notes && leb notes 16)) ≡ legalOf (asked c)
-unfolding entryOf legalOf
 song c {number} {notes} e =
-    let n = 2 * storedCount notes in
-    song-legal number notes (take n (asked c .payload)) (any-notes (c .before .before .before .before) n) ∙ legal-as (asked c) e
+    sym (song-is number notes (asked c .payload) (any-notes (c .before .before .before .before))) ∙ legal-as (asked c) e
 
 returns-13 : tie.Need-returns-13
 returns-13 c =
@@ -155,13 +152,13 @@ returns-15 c =
 -- a list's count, and the rule for its ids
 module _ (m : Message) {ids : ℕ} where
   query : m .command ≡ QueryList ids → (leb ids 16 && listableOf (payloadIn m)) ≡ legalOf m
-  unfolding entryOf legalOf
+  unfolding rowOf legalOf
   query e =
       ap (λ (x : Command). leb ids 16 && listableOf (take (payloadSize x) (m .payload))) e
       ∙ ids-legal ids (listableOf (take (storedCount ids) (m .payload))) ∙ legal-as m e
 
   stream : m .command ≡ Stream ids → (leb ids 16 && streamableOf (payloadIn m)) ≡ legalOf m
-  unfolding entryOf legalOf
+  unfolding rowOf legalOf
   stream e =
       ap (λ (x : Command). leb ids 16 && streamableOf (take (payloadSize x) (m .payload))) e
       ∙ ids-legal ids (streamableOf (take (storedCount ids) (m .payload))) ∙ legal-as m e
@@ -192,7 +189,7 @@ returns-21 c = first-of-three _ (lt-leb _ _ (c .if8 .left)) ∙ stream (asked (c
 
 -- the variants of the last arm have no data
 returns-25 : tie.Need-returns-25
-unfolding entryOf legalOf
+unfolding rowOf legalOf
 returns-25 c =
     let m = asked (c .before) in
     let test : Command → Bool = λ x. legalOf (record { command = x; payload = m .payload }) in
@@ -200,7 +197,7 @@ returns-25 c =
     sym (is-true (legalOf m) (of-tags test tags (λ a b d v w. tt) (m .command) (c .match .keys17)))
 
 pub legal-spec : {M : Type 1} → statement M
-unfolding entryOf legalOf
+unfolding rowOf legalOf
 legal-spec =
     tie.close
     (tie.spec
