@@ -198,12 +198,16 @@ module _ (bytes : List ℕ) (t : T (allBytes bytes)) where
   abbrev d : ℕ → ℕ
   d i = getD bytes i 0
 
-  abbrev Spells : Reading → Type 0
-  Spells r = Spelled bytes (r .opcode) (r .says (d 1) (d 2) (d 3) (d 4))
+  -- what a reading makes of the bytes
+  abbrev told : Reading → Command
+  told r = r .says (d 1) (d 2) (d 3) (d 4)
 
-  abbrev AllSpell : List Reading → Type 0
-  AllSpell [] = Unit {0}
-  AllSpell (r ∷ rs) = Spells r × AllSpell rs
+  record Spells (r : Reading) : Type 0 where
+    it : Spelled bytes (r .opcode) (told r)
+
+  abbrev Each : List Reading → Type 0
+  Each [] = Unit {0}
+  Each (r ∷ rs) = Spells r × Each rs
 
   otherwise-spelled : (op : ℕ) → Spelled bytes op (otherwise op)
   otherwise-spelled op = go (within 152 158 op) refl
@@ -213,17 +217,18 @@ module _ (bytes : List ℕ) (t : T (allBytes bytes)) where
       go false e = simp e (record { opcode = refl; sent = refl; shortest = λ z. absurd (omega (arith, z)) })
 
   look-one : (r : Reading) (c : Command) (op : ℕ) (e : Bool) → eqb op (r .opcode) ≡ e → Spells r → Spelled bytes op c
-      → Spelled bytes op (cond (eqb op (r .opcode)) (r .says (d 1) (d 2) (d 3) (d 4)) c)
-  look-one r c op true e s u = simp e (subst (λ (k : ℕ). Spelled bytes k (r .says (d 1) (d 2) (d 3) (d 4))) (sym (eqb-true op (r .opcode) e)) s)
+      → Spelled bytes op (cond (eqb op (r .opcode)) (told r) c)
+  look-one r c op true e s u = simp e (subst (λ (k : ℕ). Spelled bytes k (told r)) (sym (eqb-true op (r .opcode) e)) (s .it))
   look-one r c op false e s u = simp e u
 
-  look-spelled : (rs : List Reading) (op : ℕ) → AllSpell rs → Spelled bytes op (commandFor rs op (d 1) (d 2) (d 3) (d 4))
+  look-spelled : (rs : List Reading) (op : ℕ) → Each rs → Spelled bytes op (commandFor rs op (d 1) (d 2) (d 3) (d 4))
   look-spelled [] op s = otherwise-spelled op
   look-spelled (r ∷ rs) op s = look-one r (commandFor rs op (d 1) (d 2) (d 3) (d 4)) op (eqb op (r .opcode)) refl (s .0) (look-spelled rs op (s .1))
 
-  plain : {op : ℕ} {c : Command} → opcodeOf c ≡ op → allSent (formOf c .items) ≡ map (λ i. getD bytes i 0) (span 1 (length (allSent (formOf c .items))))
-      → length (headOf c) ≡ least (dataLength op) → Spelled bytes op c
-  plain p q r = record { opcode = p; sent = q; shortest = λ z. r }
+  plain : {r : Reading} → opcodeOf (told r) ≡ r .opcode
+      → allSent (formOf (told r) .items) ≡ map (λ i. getD bytes i 0) (span 1 (length (allSent (formOf (told r) .items))))
+      → length (headOf (told r)) ≡ least (dataLength (r .opcode)) → Spells r
+  plain p q s = record { it = record { opcode = p; sent = q; shortest = λ z. s } }
 
   -- two sixteen-bit numbers
   words : be16 (read16Of (d 1) (d 2)) ++ (be16 (read16Of (d 3) (d 4)) ++ []) ≡ d 1 ∷ d 2 ∷ d 3 ∷ d 4 ∷ []
@@ -231,78 +236,38 @@ module _ (bytes : List ℕ) (t : T (allBytes bytes)) where
       ap₂ (λ (k l : List ℕ). k ++ (l ++ [])) (round-trip16 .written-read (d 1) (d 2) (byte-at bytes t 1) (byte-at bytes t 2))
       (round-trip16 .written-read (d 3) (d 4) (byte-at bytes t 3) (byte-at bytes t 4))
 
-  all-spelled : AllSpell readings
+  -- in the order of the readings, five at a time
+  abbrev five : ℕ → List Reading
+  five k = take 5 (drop (5 * k) readings)
+
+  join : (rs ss : List Reading) → Each rs → Each ss → Each (rs ++ ss)
+  join [] ss p q = q
+  join (r ∷ rs) ss p q = (p .0, join rs ss (p .1) q)
+
+  spelled-0 : Each (five 0)
   unfolding dataLength
-  all-spelled = (
-    plain refl refl refl,
-    (
-      plain refl refl refl,
-      (
-        plain refl refl refl,
-        (
-          plain refl refl refl,
-          (
-            plain refl refl refl,
-            (
-              plain refl refl refl,
-              (
-                plain refl refl refl,
-                (
-                  plain refl refl refl,
-                  (
-                    plain refl refl refl,
-                    (
-                      plain refl refl refl,
-                      (
-                        plain refl words refl,
-                        (
-                          plain refl words refl,
-                          (
-                            plain refl refl refl,
-                            (
-                              plain refl refl refl,
-                              (
-                                plain refl refl refl,
-                                (
-                                  plain refl refl refl,
-                                  (
-                                    plain refl refl refl,
-                                    (
-                                      plain refl refl refl,
-                                      (
-                                        plain refl refl refl,
-                                        (
-                                          plain refl refl refl,
-                                          (
-                                            plain refl refl refl,
-                                            (
-                                              plain refl refl refl,
-                                              (
-                                                plain refl refl refl,
-                                                tt,
-                                              ),
-                                            ),
-                                          ),
-                                        ),
-                                      ),
-                                    ),
-                                  ),
-                                ),
-                              ),
-                            ),
-                          ),
-                        ),
-                      ),
-                    ),
-                  ),
-                ),
-              ),
-            ),
-          ),
-        ),
-      ),
-    ),
-  )
+  spelled-0 = (plain refl refl refl, (plain refl refl refl, (plain refl refl refl, (plain refl refl refl, (plain refl refl refl, tt)))))
+
+  spelled-1 : Each (five 1)
+  unfolding dataLength
+  spelled-1 = (plain refl refl refl, (plain refl refl refl, (plain refl refl refl, (plain refl refl refl, (plain refl refl refl, tt)))))
+
+  spelled-2 : Each (five 2)
+  unfolding dataLength
+  spelled-2 = (plain refl words refl, (plain refl words refl, (plain refl refl refl, (plain refl refl refl, (plain refl refl refl, tt)))))
+
+  spelled-3 : Each (five 3)
+  unfolding dataLength
+  spelled-3 = (plain refl refl refl, (plain refl refl refl, (plain refl refl refl, (plain refl refl refl, (plain refl refl refl, tt)))))
+
+  spelled-4 : Each (five 4)
+  unfolding dataLength
+  spelled-4 = (plain refl refl refl, (plain refl refl refl, (plain refl refl refl, tt)))
+
+  all-spelled : Each readings
+  all-spelled =
+      join (five 0) (drop 5 readings) spelled-0
+      (join (five 1) (drop 10 readings) spelled-1 (join (five 2) (drop 15 readings) spelled-2 (join (five 3) (five 4) spelled-3 spelled-4)))
 
   pub spelled : Spelled bytes (d 0) (commandOf bytes)
   unfolding commandOf
