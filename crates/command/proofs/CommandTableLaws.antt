@@ -10,13 +10,16 @@ use lib.Dec.{T, leb, eqb, leb→le, leb·zero}
 use lib.IntN.{ℤ, pos, negsuc}
 use lib.ListN.{take}
 use mir.Facts.{and-yes}
+use mir.Syntax.{w16}
+use mir.Val.{SFits, toZ, ofZ}
+use mir.ValLaws.{toZ-ofZ}
 use borrow.Author.Tests.{le-leb, lt-leb, ne-eqb}
 use Rattle.wire.specs.Lists.{all, allFrom, among, within, isByte, allBytes}
 use Rattle.wire.proofs.BoolLaws.{is-true, beq-eq, or-none, le-or-lt}
 use Rattle.wire.proofs.ListsLaws.{from, all-take}
 use Rattle.packet.specs.Answers.{listableOf, streamableOf}
 use Rattle.command.specs.Layout.{valueOf, formOf, opcodeOf, refusalOf, storedCount, payloadSize}
-use Rattle.command.specs.CommandTable.{_to_, isIn, isLegal, upTo, speed, radius, allLegal, commandTable, noRow, rowFor, rowOf, allowedOf, legalOf}
+use Rattle.command.specs.CommandTable.{Range, _to_, isIn, isLegal, upTo, speed, radius, allLegal, commandTable, noRow, rowFor, rowOf, allowedOf, legalOf}
 use Rattle.command.specs.Commands.{message, isSpeed, isRadius}
 use Rattle.command.specs.declared.Command.{Command}
 use Rattle.command.specs.declared.Command.the-variants.{Drive, Direct, Duties, Leds, Song, QueryList, Stream}
@@ -89,13 +92,7 @@ song-legal number notes l e = sym (simp (up-to 15 number, in-range 1 16 notes, e
 pub ids-legal : (ids : ℕ) (rule : Bool) → (leb ids 16 && rule) ≡ ((isLegal (upTo 16) (pos ids) && true) && rule)
 ids-legal ids rule = sym (simp (up-to 16 ids, and-true))
 
--- the test that decides, of two numbers and of three
-pub first-decides : {a : Bool} (c : Bool) → a ≡ false → a ≡ ((a && c) && true)
-first-decides c e = simp e
-
-pub second-decides : {a b : Bool} → a ≡ true → b ≡ ((a && (b && true)) && true)
-second-decides e = sym (simp (e, and-true))
-
+-- the test that decides
 pub first-of-three : {a : Bool} (c : Bool) → a ≡ false → a ≡ (a && c)
 first-of-three c e = simp e
 
@@ -105,9 +102,24 @@ second-of-three d e f = simp (e, f)
 pub third-of-three : {a b : Bool} (d : Bool) → a ≡ true → b ≡ true → d ≡ (a && (b && d))
 third-of-three d e f = simp (e, f)
 
--- a rule after a test that passes
 pub last-decides : {a b : Bool} → a ≡ true → b ≡ (a && b)
 last-decides e = simp e
+
+-- two tests by calls, which gave x and y
+pub first-tested : {a x z : Bool} (b : Bool) → x ≡ a → x ≡ false → (a && b) ≡ z → x ≡ z
+first-tested b p t f = p ∙ first-of-three b (sym p ∙ t) ∙ f
+
+pub second-tested : {a b x y z : Bool} → x ≡ a → x ≡ true → y ≡ b → (a && b) ≡ z → y ≡ z
+second-tested p t q f = q ∙ last-decides (sym p ∙ t) ∙ f
+
+-- a number of which the machine tests the bits
+pub signed : (rs : List Range) {x : Bool} {v : ℤ} → SFits w16 v → x ≡ isLegal rs (toZ w16 (ofZ w16 v)) → x ≡ isLegal rs v
+signed rs {x} {v} f e = rw (toZ-ofZ w16 v f) at e
+
+-- two numbers, as they are tested
+pub two-legal : (m : Message) (a b : Bool) {y : Command} → m .command ≡ y → legalOf (message y (m .payload)) ≡ ((a && (b && true)) && true)
+    → (a && b) ≡ legalOf m
+two-legal m a b e f = sym (f ∙ and-true (a && (b && true)) ∙ ap (λ (x : Bool). a && x) (and-true b)) ∙ legal-as m e
 
 -- ---- the legal data of commands with more than one data byte, for every value
 

@@ -1,16 +1,16 @@
 -- `command::legal` meets its contract: each arm knows the variant, and tests what its row says.
 -- Assumes nothing.
-use mathlib.Core.Path.{_≡_, sym, ap, _∙_}
+use mathlib.Core.Path.{_≡_, refl, sym, ap, _∙_}
 use mathlib.Core.Bool.{Bool, true, _&&_}
 use mathlib.Core.List.{List, _∷_}
 use Prim.Native.Nat.{ℕ, _-_, _≤_, _<_}
 use native.Mathlib.Nat.{sub-zero}
 use native.Mathlib.Omega.{arith}
 use lib.Dec.{T, leb}
+use lib.IntN.{ℤ}
 use lib.ListN.{length, getD, take}
-use mir.Syntax.{w8, w16}
+use mir.Syntax.{w8}
 use mir.Val.{Fits}
-use mir.ValLaws.{toZ-ofZ}
 use borrow.Author.Needs.{needs}
 use borrow.Author.Tests.{le-leb, lt-leb}
 use Rattle.wire.specs.Lists.{fromTo, allBytes}
@@ -18,13 +18,13 @@ use Rattle.wire.proofs.BoolLaws.{is-true, to-T}
 use Rattle.wire.proofs.ListsLaws.{bytes-true}
 use Rattle.packet.specs.Answers.{listableOf, streamableOf}
 use Rattle.command.specs.Layout.{storedCount, payloadSize, payloadIn}
-use Rattle.command.specs.CommandTable.{isLegal, speed, rowOf, legalOf}
+use Rattle.command.specs.CommandTable.{isLegal, speed, radius, rowOf, legalOf}
 use Rattle.command.specs.declared.Command.{Command}
-use Rattle.command.specs.declared.Command.the-variants.{Duties, Song, QueryList, Stream}
+use Rattle.command.specs.declared.Command.the-variants.{Drive, Direct, Duties, Song, QueryList, Stream}
 use Rattle.command.specs.declared.Message.{Message}
 use Rattle.command.proofs.VariantLaws.{of-tags}
 use Rattle.command.proofs.LayoutLaws.{small}
-use Rattle.command.proofs.CommandTableLaws.{legal-as, byte-legal, bytes-legal, ids-legal, duties-legal, song-is, first-decides, second-decides, first-of-three, second-of-three, third-of-three, last-decides}
+use Rattle.command.proofs.CommandTableLaws.{legal-as, two-legal, signed, first-tested, second-tested, byte-legal, bytes-legal, ids-legal, duties-legal, song-is, first-of-three, second-of-three, third-of-three, last-decides}
 use Rattle.command.proofs.legal.Statement.{statement}
 use Rattle.command.proofs.legal.Tie as tie
 
@@ -47,48 +47,45 @@ any-notes c =
     let each : (i : ℕ) → getD l i 0 < 256 = λ i. (let f : Fits w8 (getD l i 0) = search needs in omega arith) in
     to-T (allBytes l) (bytes-true l each)
 
--- the first of a Drive's numbers, and of a Direct's
+-- a Drive's two numbers, and a Direct's, as they are tested
+module _ (m : Message) {v w : ℤ} where
+  drive : m .command ≡ Drive v w → (isLegal speed v && isLegal radius w) ≡ legalOf m
+  unfolding rowOf legalOf
+  drive e = two-legal m (isLegal speed v) (isLegal radius w) e refl
+
+  direct : m .command ≡ Direct v w → (isLegal speed v && isLegal speed w) ≡ legalOf m
+  unfolding rowOf legalOf
+  direct e = two-legal m (isLegal speed v) (isLegal speed w) e refl
+
 velocity : (c : tie.After-is-speed) → c .is-speed .result ≡ isLegal speed (c .before .before .command2 .given .0 .0)
-velocity c =
-    let e = c .before .before .command2 .given in
-    rw (toZ-ofZ w16 (e .0 .0) (record { sfits = c .before .known-told2 .given .0 .1 })) at (c .is-speed .ensures)
+velocity c = signed speed (record { sfits = c .before .known-told2 .given .0 .1 }) (c .is-speed .ensures)
 
 right : (c : tie.After-is-speed2) → c .is-speed2 .result ≡ isLegal speed (c .before .before .command3 .given .0 .0)
-right c =
-    let e = c .before .before .command3 .given in
-    rw (toZ-ofZ w16 (e .0 .0) (record { sfits = c .before .known-told3 .given .0 .1 })) at (c .is-speed2 .ensures)
+right c = signed speed (record { sfits = c .before .known-told3 .given .0 .1 }) (c .is-speed2 .ensures)
 
 returns-2 : tie.Need-returns-2
-unfolding rowOf legalOf
 returns-2 c =
     let first = c .before .before in
-    let e = first .before .before .command2 .given in
-    let r = rw (toZ-ofZ w16 (e .0 .1 .0) (record { sfits = first .before .known-told2 .given .1 .0 .1 })) at (c .is-radius .ensures) in
-    r ∙ second-decides (sym (velocity first) ∙ c .before .if1 .taken) ∙ legal-as (asked (first .before .before .before .before)) (e .1)
+    let second = signed radius (record { sfits = first .before .known-told2 .given .1 .0 .1 }) (c .is-radius .ensures) in
+    second-tested (velocity first) (c .before .if1 .taken) second
+    (drive (asked (first .before .before .before .before)) (first .before .before .command2 .given .1))
 
 returns-3 : tie.Need-returns-3
-unfolding rowOf legalOf
 returns-3 c =
     let first = c .before in
-    let e = first .before .before .command2 .given in
-    velocity first ∙ first-decides _ (sym (velocity first) ∙ c .if1 .left)
-    ∙ legal-as (asked (first .before .before .before .before)) (e .1)
+    first-tested _ (velocity first) (c .if1 .left) (drive (asked (first .before .before .before .before)) (first .before .before .command2 .given .1))
 
 returns-4 : tie.Need-returns-4
-unfolding rowOf legalOf
 returns-4 c =
     let first = c .before .before in
-    let e = first .before .before .command3 .given in
-    let r = rw (toZ-ofZ w16 (e .0 .1 .0) (record { sfits = first .before .known-told3 .given .1 .0 .1 })) at (c .is-speed3 .ensures) in
-    r ∙ second-decides (sym (right first) ∙ c .before .if2 .taken) ∙ legal-as (asked (first .before .before .before .before)) (e .1)
+    let second = signed speed (record { sfits = first .before .known-told3 .given .1 .0 .1 }) (c .is-speed3 .ensures) in
+    second-tested (right first) (c .before .if2 .taken) second
+    (direct (asked (first .before .before .before .before)) (first .before .before .command3 .given .1))
 
 returns-5 : tie.Need-returns-5
-unfolding rowOf legalOf
 returns-5 c =
     let first = c .before in
-    let e = first .before .before .command3 .given in
-    right first ∙ first-decides _ (sym (right first) ∙ c .if2 .left)
-    ∙ legal-as (asked (first .before .before .before .before)) (e .1)
+    first-tested _ (right first) (c .if2 .left) (direct (asked (first .before .before .before .before)) (first .before .before .command3 .given .1))
 
 -- the three duties, as they are tested
 duties : (m : Message) {a b d : ℕ} → m .command ≡ Duties a b d → (leb a 128 && (leb b 128 && leb d 128)) ≡ legalOf m
