@@ -85,16 +85,16 @@ pub bytes-legal : (k a b d : ℕ) → (leb a k && (leb b k && leb d k))
     ≡ ((isLegal (upTo k) (pos a) && (isLegal (upTo k) (pos b) && (isLegal (upTo k) (pos d) && true))) && true)
 bytes-legal k a b d = sym (simp (up-to k a, up-to k b, up-to k d, and-true))
 
-pub song-legal : (number notes : ℕ) (l : List ℕ) → allBytes l ≡ true → (leb number 15 && (leb 1 notes && leb notes 16))
+song-tested : (number notes : ℕ) (l : List ℕ) → allBytes l ≡ true → (leb number 15 && (leb 1 notes && leb notes 16))
     ≡ ((isLegal (upTo 15) (pos number) && (isLegal ((pos 1 to pos 16) ∷ []) (pos notes) && true)) && allBytes l)
-song-legal number notes l e = sym (simp (up-to 15 number, in-range 1 16 notes, e, and-true))
+song-tested number notes l e = sym (simp (up-to 15 number, in-range 1 16 notes, e, and-true))
 
 pub ids-legal : (ids : ℕ) (rule : Bool) → (leb ids 16 && rule) ≡ ((isLegal (upTo 16) (pos ids) && true) && rule)
 ids-legal ids rule = sym (simp (up-to 16 ids, and-true))
 
 -- the test that decides
-pub first-of-three : {a : Bool} (c : Bool) → a ≡ false → a ≡ (a && c)
-first-of-three c e = simp e
+pub first-decides : {a : Bool} (c : Bool) → a ≡ false → a ≡ (a && c)
+first-decides c e = simp e
 
 pub second-of-three : {a b : Bool} (d : Bool) → a ≡ true → b ≡ false → b ≡ (a && (b && d))
 second-of-three d e f = simp (e, f)
@@ -107,7 +107,7 @@ last-decides e = simp e
 
 -- two tests by calls, which gave x and y
 pub first-tested : {a x z : Bool} (b : Bool) → x ≡ a → x ≡ false → (a && b) ≡ z → x ≡ z
-first-tested b p t f = p ∙ first-of-three b (sym p ∙ t) ∙ f
+first-tested b p t f = p ∙ first-decides b (sym p ∙ t) ∙ f
 
 pub second-tested : {a b x y z : Bool} → x ≡ a → x ≡ true → y ≡ b → (a && b) ≡ z → y ≡ z
 second-tested p t q f = q ∙ last-decides (sym p ∙ t) ∙ f
@@ -155,7 +155,7 @@ pub song-is : (number notes : ℕ) (p : List ℕ) → T (allBytes p)
 unfolding rowOf legalOf
 song-is number notes p t =
     let n = 2 * storedCount notes in
-    sym (song-legal number notes (take n p) (is-true (allBytes (take n p)) (all-take isByte n p t)))
+    sym (song-tested number notes (take n p) (is-true (allBytes (take n p)) (all-take isByte n p t)))
 
 -- past a legal count the rule for the payload makes no difference
 counted : (rule : List ℕ → Bool) (n : ℕ) (p : List ℕ) → (leb n 16 && rule (take (storedCount n) p)) ≡ (leb n 16 && rule (take n p))

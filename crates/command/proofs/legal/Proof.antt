@@ -24,7 +24,7 @@ use Rattle.command.specs.declared.Command.the-variants.{Drive, Direct, D
 use Rattle.command.specs.declared.Message.{Message}
 use Rattle.command.proofs.VariantLaws.{of-tags}
 use Rattle.command.proofs.LayoutLaws.{small}
-use Rattle.command.proofs.CommandTableLaws.{legal-as, two-legal, signed, first-tested, second-tested, byte-legal, bytes-legal, ids-legal, duties-legal, song-is, first-of-three, second-of-three, third-of-three, last-decides}
+use Rattle.command.proofs.CommandTableLaws.{legal-as, two-legal, signed, first-tested, second-tested, byte-legal, bytes-legal, ids-legal, duties-legal, song-is, first-decides, second-of-three, third-of-three, last-decides}
 use Rattle.command.proofs.legal.Statement.{statement}
 use Rattle.command.proofs.legal.Tie as tie
 
@@ -106,7 +106,7 @@ returns-8 c =
 returns-9 : tie.Need-returns-9
 returns-9 c =
     let e = c .before .before .command5 .given in
-    first-of-three _ (lt-leb _ _ (c .if3 .left)) ∙ duties (asked (c .before .before .before .before)) (e .1)
+    first-decides _ (lt-leb _ _ (c .if3 .left)) ∙ duties (asked (c .before .before .before .before)) (e .1)
 
 returns-10 : tie.Need-returns-10
 unfolding rowOf legalOf
@@ -144,7 +144,7 @@ returns-14 c =
 returns-15 : tie.Need-returns-15
 returns-15 c =
     let e = c .before .before .command9 .given in
-    first-of-three _ (lt-leb _ _ (c .if5 .left)) ∙ song (c .before .before .before .before) (e .1)
+    first-decides _ (lt-leb _ _ (c .if5 .left)) ∙ song (c .before .before .before .before) (e .1)
 
 -- a list's count, and the rule for its ids
 module _ (m : Message) {ids : ℕ} where
@@ -173,7 +173,7 @@ returns-18 c =
     ∙ query (asked used) (c .before .before .before .command12 .given .1)
 
 returns-19 : tie.Need-returns-19
-returns-19 c = first-of-three _ (lt-leb _ _ (c .if7 .left)) ∙ query (asked (c .before .before .before .before)) (c .before .before .command12 .given .1)
+returns-19 c = first-decides _ (lt-leb _ _ (c .if7 .left)) ∙ query (asked (c .before .before .before .before)) (c .before .before .command12 .given .1)
 
 returns-20 : tie.Need-returns-20
 returns-20 c =
@@ -182,7 +182,7 @@ returns-20 c =
     ∙ stream (asked used) (c .before .before .before .command13 .given .1)
 
 returns-21 : tie.Need-returns-21
-returns-21 c = first-of-three _ (lt-leb _ _ (c .if8 .left)) ∙ stream (asked (c .before .before .before .before)) (c .before .before .command13 .given .1)
+returns-21 c = first-decides _ (lt-leb _ _ (c .if8 .left)) ∙ stream (asked (c .before .before .before .before)) (c .before .before .command13 .given .1)
 
 -- the variants of the last arm have no data
 returns-25 : tie.Need-returns-25
