@@ -98,14 +98,11 @@ struct Head {
     size: usize,
 }
 
-// The most notes of a song, and the most ids of a list, that are legal.
-const LEGAL_COUNT: u8 = 16;
-
 // How many of a count's notes or ids are there: past a legal count none is stored.
 fn stored_count(count: u8) -> usize
     ensures { λ r. ⌜ r ≡ storedCount count ⌝ }
 {
-    if count > LEGAL_COUNT {
+    if count > frame::LEGAL_COUNT {
         return 0;
     }
     count as usize
@@ -296,11 +293,11 @@ pub fn legal(message: Message) -> bool
         Command::Leds(_bits, _color, _intensity) => true,
         Command::Outputs(bits) => bits <= 7,
         Command::Infrared(_code) => true,
-        Command::Song(number, notes) => number <= 15 && (1 <= notes && notes <= LEGAL_COUNT),
+        Command::Song(number, notes) => number <= 15 && (1 <= notes && notes <= frame::LEGAL_COUNT),
         Command::Play(number) => number <= 15,
-        Command::Sensors(id) => id <= 42,
-        Command::QueryList(ids) => ids <= LEGAL_COUNT && packet::listable(used),
-        Command::Stream(ids) => ids <= LEGAL_COUNT && packet::streamable(used),
+        Command::Sensors(id) => id <= packet::LAST_ID,
+        Command::QueryList(ids) => ids <= frame::LEGAL_COUNT && packet::listable(used),
+        Command::Stream(ids) => ids <= frame::LEGAL_COUNT && packet::streamable(used),
         Command::Pause(on) => on <= 1,
         Command::Unknown(_) => false,
         Command::NotOffered(_) => false,

@@ -19,7 +19,7 @@ ghost use Rattle.frame.specs.Push.{bodySize, storesBody, appendOf, measu
 ghost use Rattle.frame.specs.Reach.{reachableOf};
 
 // The most notes of a song, and the most ids of a list, that are legal.
-const LEGAL_COUNT: u8 = 16;
+pub const LEGAL_COUNT: u8 = 16;
 
 // How many data bytes follow an opcode.
 pub enum Length {
