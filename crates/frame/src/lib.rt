@@ -12,10 +12,8 @@
 // Proved (specs/Cut.antt): whatever the data bytes are, none is read as an opcode, and the byte after them is; so of 511 bytes 128 the
 // last is read as one, and 511 is the least such number. The cut knows nothing of modes, nor of whether a command will be refused.
 ghost use mathlib.Core.Path.{_≡_};
-ghost use lib.ListN.{drop};
-ghost use Rattle.wire.specs.Lists.{allZero};
 ghost use Rattle.frame.specs.FrameTable.{dataLength, headerSize};
-ghost use Rattle.frame.specs.Push.{bodySize, storesBody, appendOf, measureOf, pushOf, emptyPartial, nextOf};
+ghost use Rattle.frame.specs.Push.{bodySizeAs, storesBodyAs, appendOf, measureOf, pushOf, emptyPartial, nextOf};
 ghost use Rattle.frame.specs.Reach.{reachableOf};
 
 // The most notes of a song, and the most ids of a list, that are legal.
@@ -65,10 +63,10 @@ pub fn data_length(op: u8) -> Length
 }
 
 // The bytes up to the one that gives the length, the opcode among them.
-fn header_size(op: u8) -> usize
-    ensures { λ r. ⌜ r ≡ headerSize (dataLength op) ⌝ }
+fn header_size(length: Length) -> usize
+    ensures { λ r. ⌜ r ≡ headerSize length ⌝ }
 {
-    match data_length(op) {
+    match length {
         Length::Fixed(_) => 1,
         Length::Counted => 2,
         Length::Song => 3,
@@ -77,10 +75,10 @@ fn header_size(op: u8) -> usize
 }
 
 // The data bytes after the header, once that is stored.
-fn body_size(bytes: [u8; 35]) -> usize
-    ensures { λ r. ⌜ r ≡ bodySize bytes ⌝ }
+fn body_size(length: Length, bytes: [u8; 35]) -> usize
+    ensures { λ r. ⌜ r ≡ bodySizeAs length bytes ⌝ }
 {
-    match data_length(bytes[0]) {
+    match length {
         Length::Fixed(n) => n,
         Length::Counted => bytes[1] as usize,
         Length::Song => 2 * (bytes[2] as usize),
@@ -89,13 +87,12 @@ fn body_size(bytes: [u8; 35]) -> usize
 }
 
 // Whether those are stored: not past a legal count, and not in a 152.
-fn stores_body(bytes: [u8; 35]) -> bool
-    ensures { λ r. ⌜ r ≡ storesBody bytes ⌝ }
+fn stores_body(length: Length, bytes: [u8; 35]) -> bool
+    ensures { λ r. ⌜ r ≡ storesBodyAs length bytes ⌝ }
 {
-    let op = bytes[0];
-    match data_length(op) {
+    match length {
         Length::Fixed(_) => true,
-        Length::Counted => op != 152 && bytes[1] <= LEGAL_COUNT,
+        Length::Counted => bytes[0] != 152 && bytes[1] <= LEGAL_COUNT,
         Length::Song => bytes[2] <= LEGAL_COUNT,
         Length::Unknown => true,
     }
@@ -120,14 +117,14 @@ fn measure(p: Partial) -> Pushed
     ensures { λ r. ⌜ r ≡ measureOf p ⌝ }
 {
     let bytes = p.bytes;
-    let op = bytes[0];
-    if p.count < header_size(op) {
+    let length = data_length(bytes[0]);
+    if p.count < header_size(length) {
         return Pushed {
             partial: p,
             complete: false,
         };
     }
-    let remaining = body_size(bytes);
+    let remaining = body_size(length, bytes);
     let count = p.count;
     Pushed {
         partial: Partial {
@@ -149,7 +146,12 @@ pub fn push(p: Partial, b: u8) -> Pushed
         return measure(append(p, b));
     }
     let bytes = p.bytes;
-    let q = if stores_body(bytes) { append(p, b) } else { p };
+    let length = data_length(bytes[0]);
+    let q = if stores_body(length, bytes) {
+        append(p, b)
+    } else {
+        p
+    };
     let bytes = q.bytes;
     let count = q.count;
     Pushed {
@@ -184,20 +186,6 @@ pub fn next(p: Partial, b: u8) -> Partial
     pushed.partial
 }
 
-// Whether the places from an index on are 0.
-fn clear_from(bytes: [u8; 35], from: usize) -> bool
-    ensures { λ r. ⌜ r ≡ allZero (drop from bytes) ⌝ }
-{
-    let mut i = from;
-    while i < 35 {
-        if bytes[i] != 0 {
-            return false;
-        }
-        i += 1;
-    }
-    true
-}
-
 // Whether the frame table can leave this frame between two bytes.
 pub fn reachable(p: Partial) -> bool
     ensures { λ r. ⌜ r ≡ reachableOf p ⌝ }
@@ -205,22 +193,22 @@ pub fn reachable(p: Partial) -> bool
     let bytes = p.bytes;
     let count = p.count;
     let remaining = p.remaining;
-    if !clear_from(bytes, count) {
+    if !wire::clear_from(&bytes, count) {
         return false;
     }
-    let op = bytes[0];
-    let header = header_size(op);
+    let length = data_length(bytes[0]);
+    let header = header_size(length);
     if count < header {
         return remaining == 0;
     }
     if remaining == 0 {
         return false;
     }
-    let body = body_size(bytes);
+    let body = body_size(length, bytes);
     if body < remaining {
         return false;
     }
-    if stores_body(bytes) {
+    if stores_body(length, bytes) {
         count - header == body - remaining
     } else {
         count == header

@@ -1,7 +1,7 @@
 -- Bool tests as facts. The library has those on `&&`, `||` and `not` (`mir.Facts`), and on the tests of numbers (`borrow.Author.Tests`).
 -- Assumes nothing.
 use mathlib.Core.Path.{_≡_, refl, sym, ap, subst, _∙_}
-use mathlib.Core.Bool.{Bool, true, false, not, cond, _||_, Bool·beq}
+use mathlib.Core.Bool.{Bool, true, false, not, cond, _&&_, _||_, Bool·beq}
 use mathlib.Core.Logic.{_⊎_, inl, inr, ⊎-elim}
 use Prim.Native.Nat.{ℕ, zero, suc, _-_, _≤_, _<_, zero-le, suc-le-suc}
 use native.Mathlib.Nat.{eq-or-lt-of-le}
@@ -23,6 +23,13 @@ beq-eq true false t = absurd t
 beq-eq false true t = absurd t
 beq-eq false false t = refl
 
+-- two tests that pass together
+pub same-truth : (a b : Bool) → (T a → T b) → (T b → T a) → a ≡ b
+same-truth true true f g = refl
+same-truth true false f g = absurd (f tt)
+same-truth false true f g = absurd (g tt)
+same-truth false false f g = refl
+
 -- a test that asks b only where a passes
 pub implied : (a b : Bool) → T (not a || b) → T a → T b
 implied true b t h = t
@@ -31,6 +38,12 @@ implied false b t h = absurd h
 pub or-none : (b : Bool) → (b || false) ≡ b
 or-none true = refl
 or-none false = refl
+
+pub and-swap : (a b c d : Bool) → ((a && b) && (c && d)) ≡ ((a && c) && (b && d))
+and-swap true true c d = refl
+and-swap true false true d = refl
+and-swap true false false d = refl
+and-swap false b c d = refl
 
 -- ---- cond
 

@@ -12,13 +12,20 @@ use lib.Dec.{T, eqb, eqb→eq, ltb→lt}
 use lib.ListN.{length, getD, set, take, drop, replicate, length-append, length-drop, length-set, take-append-drop}
 use lib.Seq.{drop-cons, set-append-seam}
 use mir.Facts.{and-yes, yes-and, yes-ltb}
-use borrow.Author.Tests.{lt-ltb}
+use borrow.Author.Tests.{lt-ltb, eq-eqb}
+use Rattle.wire.proofs.BoolLaws.{and-swap}
 use Rattle.wire.specs.Lists.{all, allFrom, span, sum, snoc, padded, sameList, isZero, isByte, allZero, allBytes, byteArray}
 
 -- ---- lists from an index on
 
 pub drop-next : (l : List ℕ) (i : ℕ) → i < length l → drop i l ≡ getD l i 0 ∷ drop (i + 1) l
 drop-next l i h = rw add-one (drop-cons l i 0 h)
+
+-- an element does not depend on what stands past the end
+pub getD-any {ℓ} : {A : Type ℓ} (l : List A) (i : ℕ) (d e : A) → i < length l → getD l i d ≡ getD l i e
+getD-any [] i d e h = absurd (omega arith)
+getD-any (x ∷ xs) zero d e h = refl
+getD-any (x ∷ xs) (suc i) d e h = getD-any xs i d e (omega arith)
 
 -- n elements from an index on, one by one
 pub take-span : (l : List ℕ) (i n : ℕ) → i + n ≤ length l → take n (drop i l) ≡ map (λ k. getD l k 0) (span i n)
@@ -69,44 +76,54 @@ module _ (f : ℕ → List ℕ) where
 
 -- ---- all
 
+-- one turn of a loop that tests the elements from i on; d is any element
+pub all-step {ℓ} : {A : Type ℓ} (f : A → Bool) (d : A) (l : List A) (i : ℕ) → i < length l
+    → all f (drop i l) ≡ (f (getD l i d) && all f (drop (i + 1) l))
+all-step f d l i h = rw add-one (ap (all f) (drop-cons l i d h))
+
 pub all-at {ℓ} : {A : Type ℓ} (f : A → Bool) (d : A) (l : List A) (i : ℕ) → i < length l → T (all f l) → T (f (getD l i d))
 all-at f d [] i h t = absurd (omega arith)
 all-at f d (x ∷ xs) zero h t = and-yes (f x) (all f xs) t .0
 all-at f d (x ∷ xs) (suc i) h t = all-at f d xs i (omega arith) (and-yes (f x) (all f xs) t .1)
 
-module _ (f : ℕ → Bool) where
-  pub all-set : (l : List ℕ) (i b : ℕ) → T (all f l) → T (f b) → T (all f (set l i b))
+-- a test of two
+pub all-and {ℓ} : {A : Type ℓ} (f g : A → Bool) (l : List A) → all (λ x. f x && g x) l ≡ (all f l && all g l)
+all-and f g [] = refl
+all-and f g (x ∷ xs) = ap (λ (b : Bool). (f x && g x) && b) (all-and f g xs) ∙ and-swap (f x) (g x) (all f xs) (all g xs)
+
+module _ {ℓ} {A : Type ℓ} (f : A → Bool) where
+  pub all-set : (l : List A) (i : ℕ) (b : A) → T (all f l) → T (f b) → T (all f (set l i b))
   all-set [] i b t u = tt
   all-set (x ∷ xs) zero b t u = yes-and (f b) (all f xs) u (and-yes (f x) (all f xs) t .1)
   all-set (x ∷ xs) (suc i) b t u =
       let s = and-yes (f x) (all f xs) t in
       yes-and (f x) (all f (set xs i b)) (s .0) (all-set xs i b (s .1) u)
 
-  pub all-append : (l m : List ℕ) → T (all f l) → T (all f m) → T (all f (l ++ m))
+  pub all-append : (l m : List A) → T (all f l) → T (all f m) → T (all f (l ++ m))
   all-append [] m t u = u
   all-append (x ∷ xs) m t u =
       let s = and-yes (f x) (all f xs) t in
       yes-and (f x) (all f (xs ++ m)) (s .0) (all-append xs m (s .1) u)
 
-  pub all-take : (n : ℕ) (l : List ℕ) → T (all f l) → T (all f (take n l))
+  pub all-take : (n : ℕ) (l : List A) → T (all f l) → T (all f (take n l))
   all-take zero l t = tt
   all-take (suc n) [] t = tt
   all-take (suc n) (x ∷ xs) t =
       let s = and-yes (f x) (all f xs) t in
       yes-and (f x) (all f (take n xs)) (s .0) (all-take n xs (s .1))
 
-  pub all-drop : (n : ℕ) (l : List ℕ) → T (all f l) → T (all f (drop n l))
+  pub all-drop : (n : ℕ) (l : List A) → T (all f l) → T (all f (drop n l))
   all-drop zero l t = t
   all-drop (suc n) [] t = tt
   all-drop (suc n) (x ∷ xs) t = all-drop n xs (and-yes (f x) (all f xs) t .1)
 
-  pub all-replicate : (n b : ℕ) → T (f b) → T (all f (replicate n b))
+  pub all-replicate : (n : ℕ) (b : A) → T (f b) → T (all f (replicate n b))
   all-replicate zero b t = tt
   all-replicate (suc n) b t = yes-and (f b) (all f (replicate n b)) t (all-replicate n b t)
 
-  -- one turn of a loop that tests the elements from i on
+module _ (f : ℕ → Bool) where
   pub all-next : (l : List ℕ) (i : ℕ) → i < length l → all f (drop i l) ≡ (f (getD l i 0) && all f (drop (i + 1) l))
-  all-next l i h = ap (all f) (drop-next l i h)
+  all-next = all-step f 0
 
   pub all-later : (l : List ℕ) (i : ℕ) → i < length l → T (all f (drop i l)) → T (all f (drop (i + 1) l))
   all-later l i h t = and-yes (f (getD l i 0)) (all f (drop (i + 1) l)) (rw (all-next l i h) at t) .1
@@ -156,6 +173,10 @@ byte-at (x ∷ xs) t (suc i) = byte-at xs (and-yes (isByte x) (allBytes xs) t .1
 pub bytes-true : (l : List ℕ) → ((i : ℕ) → getD l i 0 < 256) → allBytes l ≡ true
 bytes-true [] h = refl
 bytes-true (x ∷ xs) h = simp (lt-ltb x 256 (h 0), bytes-true xs (λ i. h (suc i)))
+
+-- an array that the code holds is one of the definition
+pub array-true : (n : ℕ) (l : List ℕ) → length l ≡ n → ((i : ℕ) → getD l i 0 < 256) → byteArray n l ≡ true
+array-true n l e h = simp (eq-eqb (length l) n e, bytes-true l h)
 
 pub bytes-set : (l : List ℕ) (i b : ℕ) → T (allBytes l) → b < 256 → T (allBytes (set l i b))
 bytes-set l i b t h = all-set isByte l i b t (yes-ltb h)
