@@ -305,12 +305,14 @@ pub fn legal(message: Message) -> bool
     }
 }
 
-// The modes, as packet 35 sends them; Off is 0.
-const PASSIVE: u8 = 1;
+// The modes, as packet 35 sends them.
+pub const OFF: u8 = 0;
 
-const SAFE: u8 = 2;
+pub const PASSIVE: u8 = 1;
 
-const FULL: u8 = 3;
+pub const SAFE: u8 = 2;
+
+pub const FULL: u8 = 3;
 
 // A mode from this one to Full.
 fn from_mode(first: u8, mode: u8) -> bool

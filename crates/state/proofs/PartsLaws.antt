@@ -1,0 +1,193 @@
+-- A record is accepted exactly when each of its parts is; what is asked of a part, as facts.
+-- Assumes nothing.
+use mathlib.Core.Path.{_≡_, sym, ap, _∙_}
+use mathlib.Core.Bool.{Bool, true, _&&_}
+use mathlib.Core.List.{List}
+use Prim.Native.Nat.{ℕ}
+use lib.Dec.{T, eqb, ltb, ltb→lt}
+use lib.ListN.{length, getD}
+use mir.Facts.{and-yes}
+use Rattle.wire.specs.Lists.{all}
+use Rattle.wire.proofs.BoolLaws.{is-true, to-T, same-truth}
+use Rattle.wire.proofs.ListsLaws.{all-at, all-and}
+use Rattle.frame.specs.Reach.{reachableOf}
+use Rattle.state.specs.Accepted.{modeNamed, orderNamed, offUnlessDriven, wheelsLegal, dutiesLegal, outputsLegal, baudLegal, selectedLegal, streamLegal, lengthLegal, playingSet, notesZero, idsZero, items, motorsTyped, keptTyped, songTyped, songsTyped, streamTyped, typed, acceptedOf, motorsOk, keptOk, songOk, songsOk, streamOk}
+use Rattle.state.specs.declared.Motors.{Motors}
+use Rattle.state.specs.declared.Kept.{Kept}
+use Rattle.state.specs.declared.Song.{Song}
+use Rattle.state.specs.declared.Songs.{Songs}
+use Rattle.state.specs.declared.Stream.{Stream}
+use Rattle.state.specs.declared.State.{State}
+
+-- a test of two that passes
+both : (a b : Bool) → (a && b) ≡ true → (a ≡ true) × (b ≡ true)
+both a b e = let s = and-yes a b (to-T (a && b) e) in (is-true a (s .0), is-true b (s .1))
+
+-- ---- the motors
+
+pub record MotorsRight (mode : ℕ) (m : Motors) : Type 0 where
+  pub typed : motorsTyped m ≡ true
+  pub mode-named : modeNamed mode ≡ true
+  pub order-named : orderNamed m ≡ true
+  pub off : offUnlessDriven mode m ≡ true
+  pub wheels : wheelsLegal m ≡ true
+  pub duties : dutiesLegal m ≡ true
+
+module _ (mode : ℕ) (m : Motors) where
+  pub motors-facts : motorsOk mode m ≡ true → MotorsRight mode m
+  unfolding motorsOk
+  motors-facts e =
+      let a = both (motorsTyped m) (modeNamed mode && (orderNamed m && (offUnlessDriven mode m && (wheelsLegal m && dutiesLegal m)))) e in
+      let b = both (modeNamed mode) (orderNamed m && (offUnlessDriven mode m && (wheelsLegal m && dutiesLegal m))) (a .1) in
+      let c = both (orderNamed m) (offUnlessDriven mode m && (wheelsLegal m && dutiesLegal m)) (b .1) in
+      let d = both (offUnlessDriven mode m) (wheelsLegal m && dutiesLegal m) (c .1) in
+      let f = both (wheelsLegal m) (dutiesLegal m) (d .1) in
+      record { typed = a .0; mode-named = b .0; order-named = c .0; off = d .0; wheels = f .0; duties = f .1 }
+
+  pub motors-right : MotorsRight mode m → motorsOk mode m ≡ true
+  unfolding motorsOk
+  motors-right r = simp (r .typed, r .mode-named, r .order-named, r .off, r .wheels, r .duties)
+
+-- ---- what is kept
+
+pub record KeptRight (k : Kept) : Type 0 where
+  pub typed : keptTyped k ≡ true
+  pub outputs : outputsLegal k ≡ true
+  pub baud : baudLegal k ≡ true
+
+module _ (k : Kept) where
+  pub kept-facts : keptOk k ≡ true → KeptRight k
+  unfolding keptOk
+  kept-facts e =
+      let a = both (keptTyped k) (outputsLegal k && baudLegal k) e in
+      let b = both (outputsLegal k) (baudLegal k) (a .1) in
+      record { typed = a .0; outputs = b .0; baud = b .1 }
+
+  pub kept-right : KeptRight k → keptOk k ≡ true
+  unfolding keptOk
+  kept-right r = simp (r .typed, r .outputs, r .baud)
+
+-- ---- the songs
+
+pub record SongsRight (x : Songs) : Type 0 where
+  pub sixteen : eqb (length (x .table)) 16 ≡ true
+  pub selected : selectedLegal x ≡ true
+  pub playing : playingSet x ≡ true
+  pub each : all songOk (x .table) ≡ true
+
+module _ (x : Songs) where
+  pub songs-facts : songsOk x ≡ true → SongsRight x
+  unfolding songsOk
+  songs-facts e =
+      let a = both (eqb (length (x .table)) 16) (selectedLegal x && (playingSet x && all songOk (x .table))) e in
+      let b = both (selectedLegal x) (playingSet x && all songOk (x .table)) (a .1) in
+      let c = both (playingSet x) (all songOk (x .table)) (b .1) in
+      record { sixteen = a .0; selected = b .0; playing = c .0; each = c .1 }
+
+  pub songs-right : SongsRight x → songsOk x ≡ true
+  unfolding songsOk
+  songs-right r = simp (r .sixteen, r .selected, r .playing, r .each)
+
+-- one test of each song, and three tests of all
+each-song : (l : List Song) → all songOk l ≡ (all songTyped l && (all lengthLegal l && all notesZero l))
+unfolding songOk
+each-song l = all-and songTyped (λ x. lengthLegal x && notesZero x) l ∙ ap (λ (b : Bool). all songTyped l && b) (all-and lengthLegal notesZero l)
+
+-- ---- the stream list
+
+pub record StreamRight (x : Stream) : Type 0 where
+  pub typed : streamTyped x ≡ true
+  pub legal : streamLegal x ≡ true
+  pub unused : idsZero x ≡ true
+
+module _ (x : Stream) where
+  pub stream-facts : streamOk x ≡ true → StreamRight x
+  unfolding streamOk
+  stream-facts e =
+      let a = both (streamTyped x) (streamLegal x && idsZero x) e in
+      let b = both (streamLegal x) (idsZero x) (a .1) in
+      record { typed = a .0; legal = b .0; unused = b .1 }
+
+  pub stream-right : StreamRight x → streamOk x ≡ true
+  unfolding streamOk
+  stream-right r = simp (r .typed, r .legal, r .unused)
+
+-- ---- the record
+
+pub record Parts (s : State) : Type 0 where
+  pub motors : motorsOk (s .mode) (s .motors) ≡ true
+  pub kept : keptOk (s .kept) ≡ true
+  pub songs : songsOk (s .songs) ≡ true
+  pub stream : streamOk (s .stream) ≡ true
+  pub partial : reachableOf (s .partial) ≡ true
+
+module _ (s : State) where
+  pub parts-of : T (acceptedOf s) → Parts s
+  unfolding acceptedOf typed songsTyped motorsOk keptOk songsOk streamOk
+  parts-of t =
+      let a = and-yes (typed s) (all (λ b. b) (items s)) t in
+      let item : (k : ℕ) → T (ltb k 14) → getD (items s) k true ≡ true =
+      λ k h. is-true (getD (items s) k true) (all-at (λ b. b) true (items s) k (ltb→lt k 14 h) (a .1)) in
+      let m = both (motorsTyped (s .motors)) (keptTyped (s .kept) && (songsTyped (s .songs) && streamTyped (s .stream))) (is-true (typed s) (a .0)) in
+      let k = both (keptTyped (s .kept)) (songsTyped (s .songs) && streamTyped (s .stream)) (m .1) in
+      let x = both (songsTyped (s .songs)) (streamTyped (s .stream)) (k .1) in
+      let l = both (eqb (length (s .songs .table)) 16) (all songTyped (s .songs .table)) (x .0) in
+      record {
+        motors = simp (m .0, item 0 tt, item 1 tt, item 2 tt, item 3 tt, item 4 tt);
+        kept = simp (k .0, item 5 tt, item 6 tt);
+        songs = simp (l .0, item 7 tt, item 10 tt, each-song (s .songs .table), l .1, item 9 tt, item 11 tt);
+        stream = simp (x .1, item 8 tt, item 12 tt);
+        partial = item 13 tt;
+      }
+
+  pub of-parts : Parts s → T (acceptedOf s)
+  unfolding acceptedOf typed songsTyped
+  of-parts p =
+      let m = motors-facts (s .mode) (s .motors) (p .motors) in
+      let k = kept-facts (s .kept) (p .kept) in
+      let x = songs-facts (s .songs) (p .songs) in
+      let st = stream-facts (s .stream) (p .stream) in
+      let l = s .songs .table in
+      let e = both (all songTyped l) (all lengthLegal l && all notesZero l) (sym (each-song l) ∙ x .each) in
+      let f = both (all lengthLegal l) (all notesZero l) (e .1) in
+      to-T (acceptedOf s)
+      (simp (
+        m .typed,
+        k .typed,
+        x .sixteen,
+        e .0,
+        st .typed,
+        m .mode-named,
+        m .order-named,
+        m .off,
+        m .wheels,
+        m .duties,
+        k .outputs,
+        k .baud,
+        x .selected,
+        st .legal,
+        f .0,
+        x .playing,
+        f .1,
+        st .unused,
+        p .partial,
+      ))
+
+  -- as the code tests it
+  abbrev pub tested : Bool
+  tested = motorsOk (s .mode) (s .motors) && (keptOk (s .kept) && (songsOk (s .songs) && (streamOk (s .stream) && reachableOf (s .partial))))
+
+  tested-parts : tested ≡ true → Parts s
+  tested-parts e =
+      let a = both (motorsOk (s .mode) (s .motors)) (keptOk (s .kept) && (songsOk (s .songs) && (streamOk (s .stream) && reachableOf (s .partial)))) e in
+      let b = both (keptOk (s .kept)) (songsOk (s .songs) && (streamOk (s .stream) && reachableOf (s .partial))) (a .1) in
+      let c = both (songsOk (s .songs)) (streamOk (s .stream) && reachableOf (s .partial)) (b .1) in
+      let d = both (streamOk (s .stream)) (reachableOf (s .partial)) (c .1) in
+      record { motors = a .0; kept = b .0; songs = c .0; stream = d .0; partial = d .1 }
+
+  parts-tested : Parts s → tested ≡ true
+  parts-tested p = simp (p .motors, p .kept, p .songs, p .stream, p .partial)
+
+  pub by-parts : acceptedOf s ≡ tested
+  by-parts =
+      same-truth (acceptedOf s) tested (λ t. to-T tested (parts-tested (parts-of t))) (λ t. of-parts (tested-parts (is-true tested t)))

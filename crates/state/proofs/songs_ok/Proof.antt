@@ -1,0 +1,86 @@
+-- `state::songs_ok` meets its contract.
+-- Assumes nothing.
+use mathlib.Core.Path.{_≡_, sym, ap, _∙_}
+use mathlib.Core.Bool.{true, _&&_}
+use mathlib.Core.Logic.{⊎-elim}
+use Prim.Native.Nat.{_<_, _≤_}
+use native.Mathlib.Omega.{arith}
+use lib.ListN.{length, getD, length-map}
+use borrow.Author.Needs.{needs}
+use borrow.Author.Tests.{eq-eqb, ne-eqb, not-true, not-false, leb-true}
+use Rattle.wire.specs.Lists.{all}
+use Rattle.wire.proofs.ListsLaws.{getD-any}
+use mathlib.Core.List.{[]}
+use Rattle.state.specs.State.{unset, songAt}
+use Rattle.state.specs.Accepted.{selectedLegal, playingSet, songOk, songsOk}
+use Rattle.state.specs.declared.Song.{Song}
+use Rattle.state.proofs.AcceptedLaws.{play-legal}
+use Rattle.state.proofs.songs_ok.Statement.{statement}
+use Rattle.state.proofs.songs_ok.Tie as tie
+
+sixteen : (c : tie.Start) → length (c .args .songs .table) ≡ 16
+sixteen c = sym (length-map (c .args .songs .table) _) ∙ c .good .0 .1 .1 .0 .1 .0 .1
+
+returns : tie.Need-returns
+unfolding songsOk selectedLegal
+returns c =
+    simp (eq-eqb _ _ (sixteen (c .before .before .before)), sym (c .before .is-legal .ensures) ∙ not-true (c .before .is-legal .result) (c .if1 .taken))
+
+-- what the first test tells
+module _ (c : tie.Else1) where
+  abbrev asked : tie.Start
+  asked = c .before .before .before
+
+  legal : selectedLegal (asked .args .songs) ≡ true
+  unfolding selectedLegal
+  legal = sym (c .before .is-legal .ensures) ∙ not-false (c .before .is-legal .result) (c .if1 .left)
+
+  in-table : asked .args .songs .selected < 16
+  unfolding selectedLegal
+  in-table =
+      let h : asked .args .songs .selected ≤ 15 = leb-true _ _ (sym (play-legal (asked .args .songs .selected)) ∙ legal) in
+      omega arith
+
+  left-over : songsOk (asked .args .songs) ≡ (playingSet (asked .args .songs) && all songOk (asked .args .songs .table))
+  unfolding songsOk
+  left-over = simp (eq-eqb _ _ (sixteen asked), legal)
+
+array-copy-out-song : tie.Need-array-copy-out-song
+array-copy-out-song c = in-table (c .before)
+
+-- the selected song's length, as it is read
+length-read : (c : tie.Else1)
+    → let x = asked c .args .songs in
+    songAt x (x .selected) .len ≡ getD (x .table) (x .selected) (record { len = 0; notes = [] }) .len
+length-read c =
+    let x = asked c .args .songs in
+    let h : x .selected < length (x .table) = omega (arith, in-table c, sixteen (asked c)) in
+    ap (λ (song : Song). song .len) (getD-any (x .table) (x .selected) unset (record { len = 0; notes = [] }) h)
+
+returns-2 : tie.Need-returns-2
+unfolding playingSet
+returns-2 c =
+    let first = c .before .before .before .before in
+    sym (left-over first ∙ simp (c .before .before .before .if2 .taken, eq-eqb _ _ (length-read first ∙ c .if3 .taken)))
+
+playing : (c : tie.Joined2) → playingSet (asked (c .before) .args .songs) ≡ true
+unfolding playingSet
+playing c =
+    let first = c .before in
+    ⊎-elim (λ w. simp (w .0 .taken, ne-eqb _ 0 (λ e. w .3 .left (sym (length-read first) ∙ e)))) (λ w. simp (w .left)) (c .if2 .came)
+
+returns-3 : tie.Need-returns-3
+returns-3 c = c .table-ok .ensures ∙ sym (left-over (c .before .before) ∙ simp (playing (c .before)))
+
+pub songs-ok-spec : {M : Type 1} → statement M
+songs-ok-spec =
+    tie.close
+    (tie.spec
+    (λ c κs. search needs)
+    returns
+    (λ c. search needs)
+    (λ c. search needs)
+    array-copy-out-song
+    returns-2
+    (λ c κs. search needs)
+    returns-3)

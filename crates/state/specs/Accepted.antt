@@ -1,0 +1,154 @@
+-- Which records the board takes (document 01, 'Bad record'): a bad record is one that isn't accepted.
+-- Assumes nothing.
+use mathlib.Core.Bool.{Bool, true, not, cond, _&&_, _||_}
+use mathlib.Core.List.{List, [], _∷_}
+use Prim.Native.Nat.{ℕ, _*_}
+use lib.Dec.{eqb}
+use lib.IntN.{ℤ, pos}
+use lib.ListN.{length, getD, drop, replicate}
+use Rattle.wire.specs.Lists.{all, among, isZero, isByte, allZero, byteArray}
+use Rattle.wire.specs.Sixteen.{minus}
+use Rattle.frame.specs.Reach.{reachableOf}
+use Rattle.command.specs.CommandTable.{isIn, _to_, legalOf}
+use Rattle.command.specs.Commands.{message}
+use Rattle.command.specs.declared.Command.{Command}
+use Rattle.command.specs.declared.Command.the-variants as cmd
+use Rattle.state.specs.State.{off, passive, safe, full, noOrder, drive, direct, motorsOff, songAt}
+use Rattle.state.specs.declared.Motors.{Motors}
+use Rattle.state.specs.declared.Kept.{Kept}
+use Rattle.state.specs.declared.Song.{Song}
+use Rattle.state.specs.declared.Songs.{Songs}
+use Rattle.state.specs.declared.Stream.{Stream}
+use Rattle.state.specs.declared.State.{State}
+
+-- ---- the items of document 01's list, in its order: each holds of a record that isn't bad by it
+
+-- 'a mode .. that isn't one named above'
+unfoldable pub modeNamed : ℕ → Bool
+modeNamed mode = among (off ∷ passive ∷ safe ∷ full ∷ []) mode
+
+-- '.. or a kind of wheel order'
+unfoldable pub orderNamed : Motors → Bool
+orderNamed m = among (noOrder ∷ drive ∷ direct ∷ []) (m .order)
+
+-- 'Off or Passive with a motor not off'
+unfoldable pub offUnlessDriven : ℕ → Motors → Bool
+offUnlessDriven mode m = not (among (off ∷ passive ∷ []) mode) || motorsOff m
+
+-- 'outside the ranges above': of the numbers of a command they are its legal data
+abbrev pub legalNumbers : Command → Bool
+legalNumbers c = legalOf (message c (replicate 32 0))
+
+-- 'a wheel order': the numbers of no order may be anything
+unfoldable pub wheelsLegal : Motors → Bool
+wheelsLegal m =
+    cond (eqb (m .order) drive)
+    (legalNumbers (cmd.Drive (m .first) (m .second)))
+    (cond (eqb (m .order) direct) (legalNumbers (cmd.Direct (m .first) (m .second))) true)
+
+-- 'duty'
+unfoldable pub dutiesLegal : Motors → Bool
+dutiesLegal m = legalNumbers (cmd.Duties (getD (m .duties) 2 0) (getD (m .duties) 1 0) (getD (m .duties) 0 0))
+
+-- 'output'
+unfoldable pub outputsLegal : Kept → Bool
+outputsLegal k = legalNumbers (cmd.Outputs (k .outputs))
+
+-- 'baud code'
+unfoldable pub baudLegal : Kept → Bool
+baudLegal k = legalNumbers (cmd.Baud (k .baud))
+
+-- 'selected song'
+unfoldable pub selectedLegal : Songs → Bool
+selectedLegal x = legalNumbers (cmd.Play (x .selected))
+
+-- 'stream list (its rule on sizes too)': the count, and the ids in use
+unfoldable pub streamLegal : Stream → Bool
+streamLegal x = legalOf (message (cmd.Stream (x .count)) (x .ids))
+
+-- 'song length (0 is "not set")': the length is 140's second number, whatever the first
+unfoldable pub lengthLegal : Song → Bool
+lengthLegal song = isZero (song .len) || legalNumbers (cmd.Song 0 (song .len))
+
+-- a song that is set
+abbrev pub isSet : Song → Bool
+isSet song = not (isZero (song .len))
+
+-- 'playing with the selected song not set'
+unfoldable pub playingSet : Songs → Bool
+playingSet x = not (x .playing) || isSet (songAt x (x .selected))
+
+-- 'a place not in use (in a song, ..) that isn't 0': a note is two bytes
+unfoldable pub notesZero : Song → Bool
+notesZero song = allZero (drop (2 * song .len) (song .notes))
+
+-- '(.. the list ..)'; those of the held frame are part of its own test
+unfoldable pub idsZero : Stream → Bool
+idsZero x = allZero (drop (x .count) (x .ids))
+
+-- all of them; the last: 'a held frame that the frame table can't leave, its owed number included'
+abbrev pub items : State → List Bool
+items s =
+    modeNamed (s .mode)
+    ∷ orderNamed (s .motors)
+    ∷ offUnlessDriven (s .mode) (s .motors)
+    ∷ wheelsLegal (s .motors)
+    ∷ dutiesLegal (s .motors)
+    ∷ outputsLegal (s .kept)
+    ∷ baudLegal (s .kept)
+    ∷ selectedLegal (s .songs)
+    ∷ streamLegal (s .stream)
+    ∷ all lengthLegal (s .songs .table)
+    ∷ playingSet (s .songs)
+    ∷ all notesZero (s .songs .table)
+    ∷ idsZero (s .stream)
+    ∷ reachableOf (s .partial)
+    ∷ []
+
+-- ---- what is true of every value of the type, and bounds what no item does: each array has its length, bytes are bytes, i16s are i16s. The held
+-- frame's array is part of its own test.
+
+abbrev pub isWord : ℤ → Bool
+isWord v = isIn (minus 32768 to pos 32767) v
+
+unfoldable pub motorsTyped : Motors → Bool
+motorsTyped m = isWord (m .first) && (isWord (m .second) && byteArray 3 (m .duties))
+
+unfoldable pub keptTyped : Kept → Bool
+keptTyped k = byteArray 3 (k .leds) && isByte (k .ir)
+
+unfoldable pub songTyped : Song → Bool
+songTyped song = byteArray 32 (song .notes)
+
+unfoldable pub songsTyped : Songs → Bool
+songsTyped x = eqb (length (x .table)) 16 && all songTyped (x .table)
+
+unfoldable pub streamTyped : Stream → Bool
+streamTyped x = byteArray 16 (x .ids)
+
+unfoldable pub typed : State → Bool
+typed s = motorsTyped (s .motors) && (keptTyped (s .kept) && (songsTyped (s .songs) && streamTyped (s .stream)))
+
+-- ---- accepted
+
+-- every item holds
+unfoldable pub acceptedOf : State → Bool
+acceptedOf s = typed s && all (λ item. item) (items s)
+
+-- ---- the same, part by part, for the contracts of the functions that test a part
+
+unfoldable pub motorsOk : ℕ → Motors → Bool
+motorsOk mode m =
+    motorsTyped m && (modeNamed mode && (orderNamed m && (offUnlessDriven mode m && (wheelsLegal m && dutiesLegal m))))
+
+unfoldable pub keptOk : Kept → Bool
+keptOk k = keptTyped k && (outputsLegal k && baudLegal k)
+
+unfoldable pub songOk : Song → Bool
+songOk song = songTyped song && (lengthLegal song && notesZero song)
+
+unfoldable pub songsOk : Songs → Bool
+songsOk x = eqb (length (x .table)) 16 && (selectedLegal x && (playingSet x && all songOk (x .table)))
+
+unfoldable pub streamOk : Stream → Bool
+streamOk x = streamTyped x && (streamLegal x && idsZero x)

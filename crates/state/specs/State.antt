@@ -1,0 +1,159 @@
+-- The state record: power-on, and the setters, which alone change it (document 01, 'Commands at their last byte').
+-- Assumes nothing.
+use mathlib.Core.Bool.{Bool, false, _&&_}
+use mathlib.Core.List.{List, [], _∷_}
+use Prim.Native.Nat.{ℕ}
+use lib.Dec.{eqb}
+use lib.IntN.{ℤ, pos}
+use lib.ListN.{getD, set, replicate}
+use Rattle.wire.specs.Lists.{allZero}
+use Rattle.frame.specs.declared.Partial.{Partial}
+use Rattle.frame.specs.Push.{emptyPartial}
+use Rattle.state.specs.declared.Motors.{Motors}
+use Rattle.state.specs.declared.Kept.{Kept}
+use Rattle.state.specs.declared.Song.{Song}
+use Rattle.state.specs.declared.Songs.{Songs}
+use Rattle.state.specs.declared.Stream.{Stream}
+use Rattle.state.specs.declared.State.{State}
+
+-- ---- the modes, coded as packet 35 sends them, and the kinds of wheel order
+
+abbrev pub off : ℕ
+off = 0
+
+abbrev pub passive : ℕ
+passive = 1
+
+abbrev pub safe : ℕ
+safe = 2
+
+abbrev pub full : ℕ
+full = 3
+
+abbrev pub noOrder : ℕ
+noOrder = 0
+
+abbrev pub drive : ℕ
+drive = 1
+
+abbrev pub direct : ℕ
+direct = 2
+
+-- ---- motors off
+
+-- both wheels without an order, and all three duties 0
+abbrev pub motorsStopped : Motors
+motorsStopped = record { order = noOrder; first = pos 0; second = pos 0; duties = 0 ∷ 0 ∷ 0 ∷ [] }
+
+-- 'motors are off only so': a Drive order of velocity 0 is not off. The numbers of no order may be anything.
+unfoldable pub motorsOff : Motors → Bool
+motorsOff m = eqb (m .order) noOrder && allZero (m .duties)
+
+-- ---- songs
+
+-- a song never set
+abbrev pub unset : Song
+unset = record { len = 0; notes = replicate 32 0 }
+
+-- the song of a number; there is none of 16 and above
+abbrev pub songAt : Songs → ℕ → Song
+songAt songs n = getD (songs .table) n unset
+
+-- ---- power-on
+
+-- Off, motors off, no songs, selected song 0, not playing, empty list, streaming off, baud code 10, all kept bytes 0, nothing held
+unfoldable pub powerOn : State
+powerOn =
+    record {
+      mode = off;
+      motors = motorsStopped;
+      kept = record { baud = 10; leds = 0 ∷ 0 ∷ 0 ∷ []; outputs = 0; ir = 0 };
+      songs = record { table = replicate 16 unset; selected = 0; playing = false };
+      stream = record { ids = replicate 16 0; count = 0; on = false };
+      partial = emptyPartial;
+    }
+
+-- ---- one setter for each part
+
+abbrev pub withMode : ℕ → State → State
+withMode m s =
+    record { mode = m; motors = s .motors; kept = s .kept; songs = s .songs; stream = s .stream; partial = s .partial }
+
+abbrev pub withMotors : Motors → State → State
+withMotors m s =
+    record { mode = s .mode; motors = m; kept = s .kept; songs = s .songs; stream = s .stream; partial = s .partial }
+
+abbrev pub withKept : Kept → State → State
+withKept k s =
+    record { mode = s .mode; motors = s .motors; kept = k; songs = s .songs; stream = s .stream; partial = s .partial }
+
+abbrev pub withSongs : Songs → State → State
+withSongs x s =
+    record { mode = s .mode; motors = s .motors; kept = s .kept; songs = x; stream = s .stream; partial = s .partial }
+
+abbrev pub withStream : Stream → State → State
+withStream x s =
+    record { mode = s .mode; motors = s .motors; kept = s .kept; songs = s .songs; stream = x; partial = s .partial }
+
+abbrev pub withPartial : Partial → State → State
+withPartial p s =
+    record { mode = s .mode; motors = s .motors; kept = s .kept; songs = s .songs; stream = s .stream; partial = p }
+
+-- ---- and, over these, for what a command sets within a part
+
+-- 137 and 145: wheels: that order
+abbrev pub withWheels : ℕ → ℤ → ℤ → State → State
+withWheels kind first second s =
+    withMotors (record { order = kind; first = first; second = second; duties = s .motors .duties }) s
+
+-- 138 and 144: the duties of driver 0, 1, 2
+abbrev pub withDuties : ℕ → ℕ → ℕ → State → State
+withDuties d0 d1 d2 s =
+    withMotors (record { order = s .motors .order; first = s .motors .first; second = s .motors .second; duties = d0 ∷ d1 ∷ d2 ∷ [] }) s
+
+-- 129: code kept
+abbrev pub withBaud : ℕ → State → State
+withBaud n s = withKept (record { baud = n; leds = s .kept .leds; outputs = s .kept .outputs; ir = s .kept .ir }) s
+
+-- 139: kept as sent
+abbrev pub withLeds : ℕ → ℕ → ℕ → State → State
+withLeds a b c s = withKept (record { baud = s .kept .baud; leds = a ∷ b ∷ c ∷ []; outputs = s .kept .outputs; ir = s .kept .ir }) s
+
+-- 147: outputs kept
+abbrev pub withOutputs : ℕ → State → State
+withOutputs n s = withKept (record { baud = s .kept .baud; leds = s .kept .leds; outputs = n; ir = s .kept .ir }) s
+
+-- 151: IR byte kept
+abbrev pub withInfrared : ℕ → State → State
+withInfrared n s = withKept (record { baud = s .kept .baud; leds = s .kept .leds; outputs = s .kept .outputs; ir = n }) s
+
+-- 140: song replaced
+abbrev pub withSong : ℕ → Song → State → State
+withSong n song s =
+    withSongs (record { table = set (s .songs .table) n song; selected = s .songs .selected; playing = s .songs .playing }) s
+
+-- 141: selected
+abbrev pub withSelected : ℕ → State → State
+withSelected n s = withSongs (record { table = s .songs .table; selected = n; playing = s .songs .playing }) s
+
+-- 141: playing; a song end clears it
+abbrev pub withPlaying : Bool → State → State
+withPlaying b s = withSongs (record { table = s .songs .table; selected = s .songs .selected; playing = b }) s
+
+-- 148: list replaced: 16 places, of which the first n are in use
+abbrev pub withList : ℕ → List ℕ → State → State
+withList n ids s = withStream (record { ids = ids; count = n; on = s .stream .on }) s
+
+-- 148 and 150: streaming off or on
+abbrev pub withStreaming : Bool → State → State
+withStreaming b s = withStream (record { ids = s .stream .ids; count = s .stream .count; on = b }) s
+
+-- ---- stop
+
+-- document 01's stop: both wheels to no order and all three duties to 0
+abbrev pub stop : State → State
+stop s = withMotors motorsStopped s
+
+-- 'Passive, stop': every entry to Passive is one
+abbrev pub toPassive : State → State
+toPassive s = withMode passive (stop s)

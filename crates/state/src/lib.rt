@@ -1,0 +1,248 @@
+// The state record of the board: what it is at power-on, and which records are bad (document 01, 'Bad record').
+//
+//     mode       0 Off, 1 Passive, 2 Safe, 3 Full
+//     motors     the wheel order and three duties
+//     kept       baud code, LEDs, outputs, IR byte
+//     songs      16 songs, the selected one, whether it plays
+//     stream     the stream list, whether streaming is on
+//     partial    the held frame
+//
+// The caller hands a record in with each call, so it may be any value of the type; a bad one is refused with 8.
+// Proved (specs/Keeping.antt): the power-on record is accepted, and what a command sets keeps a record accepted under the condition on what it sets.
+ghost use mathlib.Core.Path.{_≡_};
+ghost use mathlib.Core.List.{List};
+ghost use Rattle.wire.specs.Lists.{all};
+ghost use Rattle.frame.specs.Reach.{reachableOf};
+ghost use Rattle.state.specs.State.{powerOn, motorsOff};
+ghost use Rattle.state.specs.Accepted.{offUnlessDriven, legalNumbers, wheelsLegal, dutiesLegal, motorsOk, keptOk, songOk, songsOk, streamOk, acceptedOf};
+use command::Command;
+use command::Message;
+use frame::Partial;
+
+// Power-on's baud code.
+const FIRST_BAUD: u8 = 10;
+
+// The kinds of wheel order.
+pub const NO_ORDER: u8 = 0;
+
+pub const DRIVE: u8 = 1;
+
+pub const DIRECT: u8 = 2;
+
+// A wheel order: its kind, and velocity and radius of a Drive, or right and left of a Direct. Of no order the two numbers may be anything.
+// Driver i's duty is duties[i].
+#[repr(C)]
+pub struct Motors {
+    pub order: u8,
+    pub first: i16,
+    pub second: i16,
+    pub duties: [u8; 3],
+}
+
+// What is kept as it was sent: the code for the serial speed, the LEDs' three bytes, the digital outputs, the IR byte.
+#[repr(C)]
+pub struct Kept {
+    pub baud: u8,
+    pub leds: [u8; 3],
+    pub outputs: u8,
+    pub ir: u8,
+}
+
+// A song: its length in notes, 0 where it is not set, and its notes, two bytes each.
+#[repr(C)]
+pub struct Song {
+    pub len: u8,
+    pub notes: [u8; 32],
+}
+
+#[repr(C)]
+pub struct Songs {
+    pub table: [Song; 16],
+    pub selected: u8,
+    pub playing: bool,
+}
+
+// The stream list: its ids, in the first places, and their number.
+#[repr(C)]
+pub struct Stream {
+    pub ids: [u8; 16],
+    pub count: u8,
+    pub on: bool,
+}
+
+// It holds no enum: mode and kind of wheel order are numbers, so that a bad one can be handed in.
+#[repr(C)]
+pub struct State {
+    pub mode: u8,
+    pub motors: Motors,
+    pub kept: Kept,
+    pub songs: Songs,
+    pub stream: Stream,
+    pub partial: Partial,
+}
+
+// The record at power-on.
+pub fn power_on() -> State
+    ensures { λ r. ⌜ r ≡ powerOn ⌝ }
+{
+    let unset = Song {
+        len: 0,
+        notes: [0u8; 32],
+    };
+    let table = [unset; 16];
+    let partial = frame::empty();
+    State {
+        mode: command::OFF,
+        motors: Motors {
+            order: NO_ORDER,
+            first: 0,
+            second: 0,
+            duties: [0u8; 3],
+        },
+        kept: Kept {
+            baud: FIRST_BAUD,
+            leds: [0u8; 3],
+            outputs: 0,
+            ir: 0,
+        },
+        songs: Songs {
+            table,
+            selected: 0,
+            playing: false,
+        },
+        stream: Stream {
+            ids: [0u8; 16],
+            count: 0,
+            on: false,
+        },
+        partial,
+    }
+}
+
+// Whether a command with no payload has legal data: the ranges of the record are those of the commands that set it.
+fn is_legal(command: Command) -> bool
+    ensures { λ r. ⌜ r ≡ legalNumbers command ⌝ }
+{
+    command::legal(Message {
+        command,
+        payload: [0u8; 32],
+    })
+}
+
+fn motors_off(motors: Motors) -> bool
+    ensures { λ r. ⌜ r ≡ motorsOff motors ⌝ }
+{
+    let duties = motors.duties;
+    motors.order == NO_ORDER && wire::clear_from(&duties, 0)
+}
+
+fn off_unless_driven(mode: u8, motors: Motors) -> bool
+    ensures { λ r. ⌜ r ≡ offUnlessDriven mode motors ⌝ }
+{
+    mode > command::PASSIVE || motors_off(motors)
+}
+
+fn wheels_legal(motors: Motors) -> bool
+    ensures { λ r. ⌜ r ≡ wheelsLegal motors ⌝ }
+{
+    if motors.order == DRIVE {
+        return is_legal(Command::Drive(motors.first, motors.second));
+    }
+    if motors.order == DIRECT {
+        return is_legal(Command::Direct(motors.first, motors.second));
+    }
+    true
+}
+
+fn duties_legal(motors: Motors) -> bool
+    ensures { λ r. ⌜ r ≡ dutiesLegal motors ⌝ }
+{
+    let duties = motors.duties;
+    is_legal(Command::Duties(duties[2], duties[1], duties[0]))
+}
+
+// The tests of a record, part by part.
+
+fn motors_ok(mode: u8, motors: Motors) -> bool
+    ensures { λ r. ⌜ r ≡ motorsOk mode motors ⌝ }
+{
+    mode <= command::FULL
+        && (motors.order <= DIRECT
+            && (off_unless_driven(mode, motors) && (wheels_legal(motors) && duties_legal(motors))))
+}
+
+fn kept_ok(kept: Kept) -> bool
+    ensures { λ r. ⌜ r ≡ keptOk kept ⌝ }
+{
+    is_legal(Command::Outputs(kept.outputs)) && is_legal(Command::Baud(kept.baud))
+}
+
+fn song_ok(song: Song) -> bool
+    ensures { λ r. ⌜ r ≡ songOk song ⌝ }
+{
+    let len = song.len;
+    let notes = song.notes;
+    len <= frame::LEGAL_COUNT && wire::clear_from(&notes, 2 * (len as usize))
+}
+
+fn table_ok(table: [Song; 16]) -> bool
+    ensures { λ r. ⌜ r ≡ all songOk table ⌝ }
+{
+    let mut i = 0;
+    while i < 16 {
+        let song = table[i];
+        if !song_ok(song) {
+            return false;
+        }
+        i += 1;
+    }
+    true
+}
+
+fn songs_ok(songs: Songs) -> bool
+    ensures { λ r. ⌜ r ≡ songsOk songs ⌝ }
+{
+    let selected = songs.selected;
+    let table = songs.table;
+    if !is_legal(Command::Play(selected)) {
+        return false;
+    }
+    if songs.playing {
+        let song = table[selected as usize];
+        if song.len == 0 {
+            return false;
+        }
+    }
+    table_ok(table)
+}
+
+// The list as 148 would send it.
+fn stream_ok(stream: Stream) -> bool
+    ensures { λ r. ⌜ r ≡ streamOk stream ⌝ }
+{
+    let ids = stream.ids;
+    let count = stream.count;
+    let mut payload = [0u8; 32];
+    wire::put_part(&ids, 0, 16, &mut payload, 0);
+    let command = Command::Stream(count);
+    command::legal(Message { command, payload }) && wire::clear_from(&ids, count as usize)
+}
+
+fn partial_ok(partial: Partial) -> bool
+    ensures { λ r. ⌜ r ≡ reachableOf partial ⌝ }
+{
+    frame::reachable(partial)
+}
+
+// Whether the board takes a record; a bad one is any other.
+pub fn accepts(state: State) -> bool
+    ensures { λ r. ⌜ r ≡ acceptedOf state ⌝ }
+{
+    let motors = state.motors;
+    let kept = state.kept;
+    let songs = state.songs;
+    let stream = state.stream;
+    let partial = state.partial;
+    motors_ok(state.mode, motors)
+        && (kept_ok(kept) && (songs_ok(songs) && (stream_ok(stream) && partial_ok(partial))))
+}
