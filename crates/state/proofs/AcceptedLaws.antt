@@ -1,52 +1,156 @@
--- Laws of the record's test.
+-- Laws of the record's test: each item as the code tests it, and in plain numbers.
 -- Assumes nothing.
 use mathlib.Core.Path.{_≡_, refl, sym, ap, _∙_}
-use mathlib.Core.Bool.{Bool, true, not, _&&_, _||_}
+use mathlib.Core.Bool.{Bool, true, false, not, cond, _&&_, _||_}
 use mathlib.Core.List.{[], _∷_}
-use Prim.Native.Nat.{ℕ, zero, suc, _<_}
+use mathlib.Core.Logic.{⊎-elim}
+use Prim.Native.Nat.{ℕ, zero, suc, _*_, _≤_, _<_}
 use native.Mathlib.Omega.{arith}
-use lib.Dec.{leb, eqb}
+use lib.Dec.{T, leb, eqb}
 use lib.IntN.{ℤ, pos, negsuc}
-use lib.ListN.{replicate}
+use lib.ListN.{length, getD, take, replicate}
+use mir.Facts.{and-yes}
 use mir.Syntax.{w16}
 use mir.Val.{SFits}
-use borrow.Author.Tests.{le-leb}
-use Rattle.wire.specs.Lists.{among}
-use Rattle.wire.proofs.BoolLaws.{pos-eqb}
+use borrow.Author.Tests.{leb-true, le-leb, lt-leb, eq-eqb, ne-eqb, eqb-true, not-true}
+use Rattle.wire.specs.Lists.{all, allFrom, among}
+use Rattle.wire.proofs.BoolLaws.{is-true, to-T, not-zero, pos-eqb, le-or-lt}
+use Rattle.wire.proofs.ListsLaws.{from, among-le, all-at, all-of, zero-later, zeros-later}
+use Rattle.packet.specs.Answers.{streamableOf}
 use Rattle.command.specs.CommandTable.{isIn, rowOf, legalOf}
-use Rattle.command.proofs.CommandTableLaws.{alike, from-off, byte-legal}
-use Rattle.state.specs.State.{motorsOff}
-use Rattle.command.proofs.CommandTableLaws.{song-is}
-use Rattle.command.specs.declared.Command.the-variants as cmd
-use Rattle.state.specs.Accepted.{modeNamed, orderNamed, offUnlessDriven, legalNumbers, wheelsLegal, dutiesLegal, lengthLegal, isWord, motorsTyped, motorsOk}
-use Rattle.state.specs.declared.Song.{Song}
+use Rattle.command.specs.Commands.{isSpeed, isRadius}
+use Rattle.command.proofs.CommandTableLaws.{alike, from-off, byte-legal, drive-legal, direct-legal, duties-legal, song-is, stream-legal}
+use Rattle.state.specs.State.{motorsOff, unset, songAt}
+use Rattle.state.specs.Accepted.{modeNamed, orderNamed, offUnlessDriven, wheelsLegal, dutiesLegal, outputsLegal, baudLegal, selectedLegal, streamLegal, lengthLegal, isSet, playingSet, notesZero, idsZero, isWord, motorsTyped, motorsOk}
 use Rattle.state.specs.declared.Motors.{Motors}
+use Rattle.state.specs.declared.Kept.{Kept}
+use Rattle.state.specs.declared.Song.{Song}
+use Rattle.state.specs.declared.Songs.{Songs}
+use Rattle.state.specs.declared.Stream.{Stream}
 
--- ---- what is true of every value of the type
+-- a test of two that passes
+pub both : (a b : Bool) → (a && b) ≡ true → (a ≡ true) × (b ≡ true)
+both a b e = let s = and-yes a b (to-T (a && b) e) in (is-true a (s .0), is-true b (s .1))
+
+-- ---- i16s
 
 pub word-true : (v : ℤ) → SFits w16 v → isWord v ≡ true
 unfolding isIn
 word-true (pos n) f = le-leb n 32767 (omega (arith, f .sfits))
 word-true (negsuc n) f = simp (le-leb n 32767 (omega (arith, f .sfits)))
 
--- ---- mode and kind of wheel order, as the code tests them
+-- ---- a mode
 
 pub mode-named : (m : ℕ) → m < 256 → modeNamed m ≡ leb m 3
 unfolding modeNamed
 mode-named m h = sym (from-off m h)
 
+pub mode-is : (m : ℕ) → modeNamed m ≡ true → m ≤ 3
+unfolding modeNamed
+mode-is m e = among-le (0 ∷ 1 ∷ 2 ∷ 3 ∷ []) 3 m tt (to-T (modeNamed m) e)
+
+pub mode-of : (m : ℕ) → m ≤ 3 → modeNamed m ≡ true
+mode-of m h = mode-named m (omega arith) ∙ le-leb m 3 h
+
+-- ---- a kind of wheel order
+
 pub order-named : (m : Motors) → m .order < 256 → orderNamed m ≡ leb (m .order) 2
 unfolding orderNamed
 order-named m h = sym (alike (λ k. leb k 2) (among (0 ∷ 1 ∷ 2 ∷ [])) tt (m .order) h)
 
-pub unless-driven : (mode : ℕ) (m : Motors) → mode < 256 → offUnlessDriven mode m ≡ (not (leb mode 1) || motorsOff m)
-unfolding offUnlessDriven
-unless-driven mode m h = ap (λ (b : Bool). not b || motorsOff m) (sym (alike (λ k. leb k 1) (among (0 ∷ 1 ∷ [])) tt mode h))
+pub order-is : (m : Motors) → orderNamed m ≡ true → m .order ≤ 2
+unfolding orderNamed
+order-is m e = among-le (0 ∷ 1 ∷ 2 ∷ []) 2 (m .order) tt (to-T (orderNamed m) e)
 
-pub motors-tested : (mode : ℕ) (m : Motors) → mode < 256 → m .order < 256 → motorsTyped m ≡ true
-    → motorsOk mode m ≡ (leb mode 3 && (leb (m .order) 2 && (offUnlessDriven mode m && (wheelsLegal m && dutiesLegal m))))
-unfolding motorsOk
-motors-tested mode m a b t = simp (t, mode-named mode a, order-named m b)
+pub order-of : (m : Motors) → m .order ≤ 2 → orderNamed m ≡ true
+order-of m h = order-named m (omega arith) ∙ le-leb (m .order) 2 h
+
+-- ---- Off or Passive with a motor not off
+
+module _ (mode : ℕ) (m : Motors) where
+  pub unless-driven : mode < 256 → offUnlessDriven mode m ≡ (not (leb mode 1) || motorsOff m)
+  unfolding offUnlessDriven
+  unless-driven h = ap (λ (b : Bool). not b || motorsOff m) (sym (alike (λ k. leb k 1) (among (0 ∷ 1 ∷ [])) tt mode h))
+
+  pub off-is : offUnlessDriven mode m ≡ true → mode ≤ 1 → motorsOff m ≡ true
+  off-is e h = sym (unless-driven (omega arith) ∙ simp (le-leb mode 1 h)) ∙ e
+
+  pub off-of : mode ≤ 3 → (mode ≤ 1 → motorsOff m ≡ true) → offUnlessDriven mode m ≡ true
+  off-of a f =
+      unless-driven (omega arith)
+      ∙ ⊎-elim (λ (h : mode ≤ 1). simp (le-leb mode 1 h, f h)) (λ (h : 1 < mode). simp (lt-leb mode 1 h)) (le-or-lt mode 1)
+
+  pub motors-tested : mode < 256 → m .order < 256 → motorsTyped m ≡ true
+      → motorsOk mode m ≡ (leb mode 3 && (leb (m .order) 2 && (offUnlessDriven mode m && (wheelsLegal m && dutiesLegal m))))
+  unfolding motorsOk
+  motors-tested a b t = simp (t, mode-named mode a, order-named m b)
+
+-- ---- a wheel order
+
+abbrev driveRight : Motors → Bool
+driveRight m = isSpeed (m .first) && isRadius (m .second)
+
+abbrev directRight : Motors → Bool
+directRight m = isSpeed (m .first) && isSpeed (m .second)
+
+module _ (m : Motors) where
+  pub wheels-are : wheelsLegal m ≡ cond (eqb (m .order) 1) (driveRight m) (cond (eqb (m .order) 2) (directRight m) true)
+  unfolding wheelsLegal
+  wheels-are = simp (drive-legal, direct-legal)
+
+  pub drive-is : wheelsLegal m ≡ true → m .order ≡ 1 → driveRight m ≡ true
+  drive-is e o = sym (wheels-are ∙ simp (eq-eqb (m .order) 1 o)) ∙ e
+
+  pub direct-is : wheelsLegal m ≡ true → m .order ≡ 2 → directRight m ≡ true
+  direct-is e o = sym (wheels-are ∙ simp (ne-eqb (m .order) 1 (λ (h : m .order ≡ 1). omega arith), eq-eqb (m .order) 2 o)) ∙ e
+
+  pub wheels-of : (m .order ≡ 1 → driveRight m ≡ true) → (m .order ≡ 2 → directRight m ≡ true) → wheelsLegal m ≡ true
+  wheels-of f g = wheels-are ∙ go (eqb (m .order) 1) (eqb (m .order) 2) refl refl
+    where
+      go : (a b : Bool) → eqb (m .order) 1 ≡ a → eqb (m .order) 2 ≡ b → cond a (driveRight m) (cond b (directRight m) true) ≡ true
+      go true b e h = f (eqb-true (m .order) 1 e)
+      go false true e h = g (eqb-true (m .order) 2 h)
+      go false false e h = refl
+
+-- ---- duties
+
+module _ (m : Motors) where
+  pub duties-tested : dutiesLegal m ≡ (leb (getD (m .duties) 2 0) 128 && (leb (getD (m .duties) 1 0) 128 && leb (getD (m .duties) 0 0) 128))
+  unfolding dutiesLegal
+  duties-tested = duties-legal (getD (m .duties) 2 0) (getD (m .duties) 1 0) (getD (m .duties) 0 0) (replicate 32 0)
+
+  pub duties-are : dutiesLegal m ≡ true → (i : ℕ) → i < 3 → getD (m .duties) i 0 ≤ 128
+  duties-are e i h =
+      let d : ℕ → Bool = λ k. leb (getD (m .duties) k 0) 128 in
+      let a = both (d 2) (d 1 && d 0) (sym duties-tested ∙ e) in
+      let b = both (d 1) (d 0) (a .1) in
+      let t : T (allFrom d 0 3) = to-T (allFrom d 0 3) (simp (b .1, b .0, a .0)) in
+      leb-true (getD (m .duties) i 0) 128 (is-true (d i) (from d 0 3 t i (omega arith) (omega arith)))
+
+  pub duties-of : ((i : ℕ) → i < 3 → getD (m .duties) i 0 ≤ 128) → dutiesLegal m ≡ true
+  duties-of f =
+      duties-tested
+      ∙ simp (le-leb (getD (m .duties) 2 0) 128 (f 2 (omega arith)), le-leb (getD (m .duties) 1 0) 128 (f 1 (omega arith)), le-leb (getD (m .duties) 0 0) 128 (f 0 (omega arith)))
+
+-- ---- output, baud code, selected song
+
+pub outputs-tested : (k : Kept) → outputsLegal k ≡ leb (k .outputs) 7
+unfolding rowOf legalOf outputsLegal
+outputs-tested k = sym (byte-legal 7 (k .outputs))
+
+pub baud-tested : (k : Kept) → baudLegal k ≡ leb (k .baud) 11
+unfolding rowOf legalOf baudLegal
+baud-tested k = sym (byte-legal 11 (k .baud))
+
+pub selected-tested : (x : Songs) → selectedLegal x ≡ leb (x .selected) 15
+unfolding rowOf legalOf selectedLegal
+selected-tested x = sym (byte-legal 15 (x .selected))
+
+-- ---- stream list
+
+pub list-tested : (x : Stream) → streamLegal x ≡ (leb (x .count) 16 && streamableOf (take (x .count) (x .ids)))
+unfolding streamLegal
+list-tested x = stream-legal (x .count) (x .ids)
 
 -- ---- songs
 
@@ -59,6 +163,47 @@ pub length-legal : (song : Song) → lengthLegal song ≡ leb (song .len) 16
 unfolding lengthLegal
 length-legal song = ap (λ (b : Bool). eqb (song .len) 0 || b) (song-is 0 (song .len) (replicate 32 0) tt) ∙ zero-or (song .len)
 
-pub play-legal : (n : ℕ) → legalNumbers (cmd.Play n) ≡ leb n 15
-unfolding rowOf legalOf
-play-legal n = sym (byte-legal 15 n)
+module _ (x : Songs) where
+  pub lengths-are : all lengthLegal (x .table) ≡ true → (n : ℕ) → n < length (x .table) → songAt x n .len ≤ 16
+  lengths-are e n h =
+      leb-true (songAt x n .len) 16
+      (sym (length-legal (songAt x n)) ∙ is-true (lengthLegal (songAt x n)) (all-at lengthLegal unset (x .table) n h (to-T (all lengthLegal (x .table)) e)))
+
+  pub lengths-of : ((n : ℕ) → n < length (x .table) → songAt x n .len ≤ 16) → all lengthLegal (x .table) ≡ true
+  lengths-of f =
+      is-true (all lengthLegal (x .table))
+      (all-of lengthLegal unset (x .table) (λ n h. to-T (lengthLegal (songAt x n)) (length-legal (songAt x n) ∙ le-leb (songAt x n .len) 16 (f n h))))
+
+  pub playing-is : playingSet x ≡ true → x .playing ≡ true → 0 < songAt x (x .selected) .len
+  unfolding playingSet
+  playing-is e p = not-zero (songAt x (x .selected) .len) (not-true (eqb (songAt x (x .selected) .len) 0) (sym (simp p) ∙ e))
+
+  pub playing-of : (x .playing ≡ true → 0 < songAt x (x .selected) .len) → playingSet x ≡ true
+  unfolding playingSet
+  playing-of f = go (x .playing) refl
+    where
+      go : (b : Bool) → x .playing ≡ b → (not b || isSet (songAt x (x .selected))) ≡ true
+      go true e = simp (pos-eqb (songAt x (x .selected) .len) (f e))
+      go false e = refl
+
+  pub notes-are : all notesZero (x .table) ≡ true → (n i : ℕ) → n < length (x .table) → 2 * songAt x n .len ≤ i → getD (songAt x n .notes) i 0 ≡ 0
+  unfolding notesZero
+  notes-are e n i h l =
+      zero-later (songAt x n .notes) (2 * songAt x n .len) (all-at notesZero unset (x .table) n h (to-T (all notesZero (x .table)) e)) i l
+
+  pub notes-of : ((n i : ℕ) → n < length (x .table) → 2 * songAt x n .len ≤ i → getD (songAt x n .notes) i 0 ≡ 0) → all notesZero (x .table) ≡ true
+  unfolding notesZero
+  notes-of f =
+      is-true (all notesZero (x .table))
+      (all-of notesZero unset (x .table) (λ n h. zeros-later (songAt x n .notes) (2 * songAt x n .len) (λ i l. f n i h l)))
+
+-- ---- a place not in use in the list
+
+module _ (x : Stream) where
+  pub ids-are : idsZero x ≡ true → (i : ℕ) → x .count ≤ i → getD (x .ids) i 0 ≡ 0
+  unfolding idsZero
+  ids-are e = zero-later (x .ids) (x .count) (to-T (idsZero x) e)
+
+  pub ids-of : ((i : ℕ) → x .count ≤ i → getD (x .ids) i 0 ≡ 0) → idsZero x ≡ true
+  unfolding idsZero
+  ids-of f = is-true (idsZero x) (zeros-later (x .ids) (x .count) f)

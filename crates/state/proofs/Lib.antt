@@ -1,2 +1,5 @@
+pub mod StateLaws
 pub mod AcceptedLaws
 pub mod PartsLaws
+pub mod KeepingLaws
+pub mod RecordProved

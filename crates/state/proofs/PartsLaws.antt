@@ -18,10 +18,7 @@ use Rattle.state.specs.declared.Song.{Song}
 use Rattle.state.specs.declared.Songs.{Songs}
 use Rattle.state.specs.declared.Stream.{Stream}
 use Rattle.state.specs.declared.State.{State}
-
--- a test of two that passes
-both : (a b : Bool) → (a && b) ≡ true → (a ≡ true) × (b ≡ true)
-both a b e = let s = and-yes a b (to-T (a && b) e) in (is-true a (s .0), is-true b (s .1))
+use Rattle.state.proofs.AcceptedLaws.{both}
 
 -- ---- the motors
 
@@ -121,23 +118,46 @@ pub record Parts (s : State) : Type 0 where
   pub stream : streamOk (s .stream) ≡ true
   pub partial : reachableOf (s .partial) ≡ true
 
+pub record TypedRight (s : State) : Type 0 where
+  pub motors : motorsTyped (s .motors) ≡ true
+  pub kept : keptTyped (s .kept) ≡ true
+  pub sixteen : eqb (length (s .songs .table)) 16 ≡ true
+  pub songs : all songTyped (s .songs .table) ≡ true
+  pub stream : streamTyped (s .stream) ≡ true
+
 module _ (s : State) where
-  pub parts-of : T (acceptedOf s) → Parts s
-  unfolding acceptedOf typed songsTyped motorsOk keptOk songsOk streamOk
-  parts-of t =
+  -- an item by its number
+  pub item-of : T (acceptedOf s) → (k : ℕ) → T (ltb k 14) → getD (items s) k true ≡ true
+  unfolding acceptedOf
+  item-of t k h =
       let a = and-yes (typed s) (all (λ b. b) (items s)) t in
-      let item : (k : ℕ) → T (ltb k 14) → getD (items s) k true ≡ true =
-      λ k h. is-true (getD (items s) k true) (all-at (λ b. b) true (items s) k (ltb→lt k 14 h) (a .1)) in
-      let m = both (motorsTyped (s .motors)) (keptTyped (s .kept) && (songsTyped (s .songs) && streamTyped (s .stream))) (is-true (typed s) (a .0)) in
+      is-true (getD (items s) k true) (all-at (λ b. b) true (items s) k (ltb→lt k 14 h) (a .1))
+
+  -- what is true of every value of the type
+  pub typed-of : T (typed s) → TypedRight s
+  unfolding typed songsTyped
+  typed-of t =
+      let m = both (motorsTyped (s .motors)) (keptTyped (s .kept) && (songsTyped (s .songs) && streamTyped (s .stream))) (is-true (typed s) t) in
       let k = both (keptTyped (s .kept)) (songsTyped (s .songs) && streamTyped (s .stream)) (m .1) in
       let x = both (songsTyped (s .songs)) (streamTyped (s .stream)) (k .1) in
       let l = both (eqb (length (s .songs .table)) 16) (all songTyped (s .songs .table)) (x .0) in
+      record { motors = m .0; kept = k .0; sixteen = l .0; songs = l .1; stream = x .1 }
+
+  pub typed-accepted : T (acceptedOf s) → TypedRight s
+  unfolding acceptedOf
+  typed-accepted t = typed-of (and-yes (typed s) (all (λ b. b) (items s)) t .0)
+
+  pub parts-of : T (acceptedOf s) → Parts s
+  unfolding motorsOk keptOk songsOk streamOk
+  parts-of t =
+      let i = item-of t in
+      let r = typed-accepted t in
       record {
-        motors = simp (m .0, item 0 tt, item 1 tt, item 2 tt, item 3 tt, item 4 tt);
-        kept = simp (k .0, item 5 tt, item 6 tt);
-        songs = simp (l .0, item 7 tt, item 10 tt, each-song (s .songs .table), l .1, item 9 tt, item 11 tt);
-        stream = simp (x .1, item 8 tt, item 12 tt);
-        partial = item 13 tt;
+        motors = simp (r .motors, i 0 tt, i 1 tt, i 2 tt, i 3 tt, i 4 tt);
+        kept = simp (r .kept, i 5 tt, i 6 tt);
+        songs = simp (r .sixteen, i 7 tt, i 10 tt, each-song (s .songs .table), r .songs, i 9 tt, i 11 tt);
+        stream = simp (r .stream, i 8 tt, i 12 tt);
+        partial = i 13 tt;
       }
 
   pub of-parts : Parts s → T (acceptedOf s)

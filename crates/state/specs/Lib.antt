@@ -1,2 +1,4 @@
 pub mod State
 pub mod Accepted
+pub mod Cases
+pub mod Record

@@ -106,18 +106,17 @@ abbrev pub withWheels : ℕ → ℤ → ℤ → State → State
 withWheels kind first second s =
     withMotors (record { order = kind; first = first; second = second; duties = s .motors .duties }) s
 
--- 138 and 144: the duties of driver 0, 1, 2
-abbrev pub withDuties : ℕ → ℕ → ℕ → State → State
-withDuties d0 d1 d2 s =
-    withMotors (record { order = s .motors .order; first = s .motors .first; second = s .motors .second; duties = d0 ∷ d1 ∷ d2 ∷ [] }) s
+-- 138 and 144: those duties, of driver 0, 1, 2
+abbrev pub withDuties : List ℕ → State → State
+withDuties ds s = withMotors (record { order = s .motors .order; first = s .motors .first; second = s .motors .second; duties = ds }) s
 
 -- 129: code kept
 abbrev pub withBaud : ℕ → State → State
 withBaud n s = withKept (record { baud = n; leds = s .kept .leds; outputs = s .kept .outputs; ir = s .kept .ir }) s
 
 -- 139: kept as sent
-abbrev pub withLeds : ℕ → ℕ → ℕ → State → State
-withLeds a b c s = withKept (record { baud = s .kept .baud; leds = a ∷ b ∷ c ∷ []; outputs = s .kept .outputs; ir = s .kept .ir }) s
+abbrev pub withLeds : List ℕ → State → State
+withLeds bs s = withKept (record { baud = s .kept .baud; leds = bs; outputs = s .kept .outputs; ir = s .kept .ir }) s
 
 -- 147: outputs kept
 abbrev pub withOutputs : ℕ → State → State

@@ -8,13 +8,13 @@ use Prim.Native.Nat.{ℕ, zero, suc, _+_, _-_, _≤_, _<_, zero-le}
 use native.Mathlib.Nat.{eq-or-lt-of-le, zero-add}
 use native.Mathlib.Numerals.{add-one}
 use native.Mathlib.Omega.{arith}
-use lib.Dec.{T, eqb, eqb→eq, ltb→lt}
+use lib.Dec.{T, leb, leb→le, eqb, eqb→eq, ltb→lt}
 use lib.ListN.{length, getD, set, take, drop, replicate, length-append, length-drop, length-set, take-append-drop}
-use lib.Seq.{drop-cons, set-append-seam}
-use mir.Facts.{and-yes, yes-and, yes-ltb}
+use lib.Seq.{drop-cons, set-append-seam, getD-drop}
+use mir.Facts.{and-yes, or-yes, yes-and, yes-ltb, yes-eqb}
 use borrow.Author.Tests.{lt-ltb, eq-eqb}
 use Rattle.wire.proofs.BoolLaws.{and-swap}
-use Rattle.wire.specs.Lists.{all, allFrom, span, sum, snoc, padded, sameList, isZero, isByte, allZero, allBytes, byteArray}
+use Rattle.wire.specs.Lists.{all, allFrom, span, sum, among, snoc, padded, sameList, isZero, isByte, allZero, allBytes, byteArray}
 
 -- ---- lists from an index on
 
@@ -44,6 +44,16 @@ span-end p end h = let e : end - p ≡ 0 = omega arith in rw e refl
 pub span-snoc : (a n : ℕ) → span a (suc n) ≡ snoc (span a n) (a + n)
 span-snoc a zero = let e : a ≡ a + 0 = omega arith in ap (λ (k : ℕ). k ∷ []) e
 span-snoc a (suc n) = let e : suc a + n ≡ a + suc n = omega arith in ap (λ (l : List ℕ). a ∷ l) (span-snoc (suc a) n ∙ ap (snoc (span (suc a) n)) e)
+
+-- ---- among
+
+-- one of numbers of which none is above m
+pub among-le : (l : List ℕ) (m k : ℕ) → T (all (λ x. leb x m) l) → T (among l k) → k ≤ m
+among-le [] m k t u = absurd u
+among-le (x ∷ xs) m k t u =
+    let s = and-yes (leb x m) (all (λ x. leb x m) xs) t in
+    let h = leb→le x m (s .0) in
+    ⊎-elim (λ v. let e = eqb→eq k x v in omega arith) (λ v. among-le xs m k (s .1) v) (or-yes (eqb k x) (among xs k) u)
 
 -- ---- sameList
 
@@ -85,6 +95,11 @@ pub all-at {ℓ} : {A : Type ℓ} (f : A → Bool) (d : A) (l : List A) (i : ℕ
 all-at f d [] i h t = absurd (omega arith)
 all-at f d (x ∷ xs) zero h t = and-yes (f x) (all f xs) t .0
 all-at f d (x ∷ xs) (suc i) h t = all-at f d xs i (omega arith) (and-yes (f x) (all f xs) t .1)
+
+-- from each element to all
+pub all-of {ℓ} : {A : Type ℓ} (f : A → Bool) (d : A) (l : List A) → ((i : ℕ) → i < length l → T (f (getD l i d))) → T (all f l)
+all-of f d [] h = tt
+all-of f d (x ∷ xs) h = yes-and (f x) (all f xs) (h 0 (omega arith)) (all-of f d xs (λ i b. h (suc i) (omega arith)))
 
 -- a test of two
 pub all-and {ℓ} : {A : Type ℓ} (f g : A → Bool) (l : List A) → all (λ x. f x && g x) l ≡ (all f l && all g l)
@@ -191,6 +206,20 @@ zeros-are [] t = refl
 zeros-are (x ∷ xs) t =
     let s = and-yes (isZero x) (allZero xs) t in
     ap (λ (n : ℕ). n ∷ xs) (eqb→eq x 0 (s .0)) ∙ ap (λ (l : List ℕ). 0 ∷ l) (zeros-are xs (s .1))
+
+pub zero-at : (l : List ℕ) → T (allZero l) → (i : ℕ) → getD l i 0 ≡ 0
+zero-at [] t i = refl
+zero-at (x ∷ xs) t zero = eqb→eq x 0 (and-yes (isZero x) (allZero xs) t .0)
+zero-at (x ∷ xs) t (suc i) = zero-at xs (and-yes (isZero x) (allZero xs) t .1) i
+
+-- the places from n on, one by one, and all of them
+pub zero-later : (l : List ℕ) (n : ℕ) → T (allZero (drop n l)) → (i : ℕ) → n ≤ i → getD l i 0 ≡ 0
+zero-later l n t i h =
+    let e : n + (i - n) ≡ i = omega arith in
+    ap (λ (k : ℕ). getD l k 0) (sym e) ∙ sym (getD-drop n l (i - n) 0) ∙ zero-at (drop n l) t (i - n)
+
+pub zeros-later : (l : List ℕ) (n : ℕ) → ((i : ℕ) → n ≤ i → getD l i 0 ≡ 0) → T (allZero (drop n l))
+zeros-later l n h = all-of isZero 0 (drop n l) (λ i b. yes-eqb (getD-drop n l i 0 ∙ h (n + i) (omega arith)))
 
 -- a list whose places from n on are 0
 pub zeros-from : (l : List ℕ) (n : ℕ) → T (allZero (drop n l)) → l ≡ take n l ++ replicate (length l - n) 0

@@ -1,14 +1,19 @@
 -- `state::motors_off` meets its contract.
 -- Assumes nothing.
+use mathlib.Core.Path.{_≡_}
 use borrow.Author.Needs.{needs}
 use borrow.Author.Tests.{eq-eqb, ne-eqb}
+use Rattle.wire.specs.Lists.{allZero}
 use Rattle.state.specs.State.{motorsOff}
 use Rattle.state.proofs.motors_off.Statement.{statement}
 use Rattle.state.proofs.motors_off.Tie as tie
 
+duties-zero : (c : tie.After-clear-from) → c .clear-from .result ≡ allZero (c .before .before .before .before .before .args .motors .duties)
+duties-zero c = c .clear-from .ensures
+
 returns : tie.Need-returns
 unfolding motorsOff
-returns c = simp (eq-eqb _ _ (c .before .before .if1 .taken), c .clear-from .ensures)
+returns c = simp (eq-eqb _ _ (c .before .before .if1 .taken), duties-zero c)
 
 returns-2 : tie.Need-returns-2
 unfolding motorsOff

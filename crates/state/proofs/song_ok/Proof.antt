@@ -23,11 +23,15 @@ typed c =
     let each : (i : ℕ) → getD l i 0 < 256 = λ i. (let h : Fits w8 (getD l i 0) = search needs in omega arith) in
     array-true 32 l len each
 
+unused : (c : tie.After-clear-from) → c .clear-from .result ≡ notesZero (c .before .before .before .before .args .song)
+unfolding notesZero
+unused c = c .clear-from .ensures
+
 returns : tie.Need-returns
-unfolding songOk notesZero
+unfolding songOk
 returns c =
     let start = c .before .before .before .before in
-    simp (typed start, length-legal (start .args .song), le-leb _ _ (c .before .before .if1 .taken), c .clear-from .ensures)
+    simp (typed start, length-legal (start .args .song), le-leb _ _ (c .before .before .if1 .taken), unused c)
 
 returns-2 : tie.Need-returns-2
 unfolding songOk

@@ -14,7 +14,7 @@ use mathlib.Core.List.{[]}
 use Rattle.state.specs.State.{unset, songAt}
 use Rattle.state.specs.Accepted.{selectedLegal, playingSet, songOk, songsOk}
 use Rattle.state.specs.declared.Song.{Song}
-use Rattle.state.proofs.AcceptedLaws.{play-legal}
+use Rattle.state.proofs.AcceptedLaws.{selected-tested}
 use Rattle.state.proofs.songs_ok.Statement.{statement}
 use Rattle.state.proofs.songs_ok.Tie as tie
 
@@ -38,7 +38,7 @@ module _ (c : tie.Else1) where
   in-table : asked .args .songs .selected < 16
   unfolding selectedLegal
   in-table =
-      let h : asked .args .songs .selected ≤ 15 = leb-true _ _ (sym (play-legal (asked .args .songs .selected)) ∙ legal) in
+      let h : asked .args .songs .selected ≤ 15 = leb-true _ _ (sym (selected-tested (asked .args .songs)) ∙ legal) in
       omega arith
 
   left-over : songsOk (asked .args .songs) ≡ (playingSet (asked .args .songs) && all songOk (asked .args .songs .table))

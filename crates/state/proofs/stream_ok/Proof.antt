@@ -2,7 +2,7 @@
 -- Assumes nothing.
 use mathlib.Core.Path.{_≡_, sym, ap, _∙_}
 use mathlib.Core.List.{List}
-use mathlib.Core.Bool.{true}
+use mathlib.Core.Bool.{Bool, true}
 use Prim.Native.Nat.{ℕ, _-_, _<_, _≤_}
 use native.Mathlib.Omega.{arith}
 use lib.ListN.{length, getD, take, drop, replicate}
@@ -41,16 +41,16 @@ put-part-requires c κs =
     (h, omega arith)
 
 -- the ids in use are those of the payload
-judged : (x : Stream) {p : List ℕ} {r : ℕ} → length (x .ids) ≡ 16 → Put (take 16 (drop 0 (x .ids))) 0 (replicate 32 0) p r
-    → legalOf (message (cmd.Stream (x .count)) p) ≡ streamLegal x
+judged : (x : Stream) {p : List ℕ} {r : ℕ} {b : Bool} → length (x .ids) ≡ 16 → Put (take 16 (drop 0 (x .ids))) 0 (replicate 32 0) p r
+    → b ≡ legalOf (message (cmd.Stream (x .count)) p) → b ≡ streamLegal x
 unfolding streamLegal
-judged x {p} l put =
+judged x {p} l put f =
     let ids = x .ids in
     let n = storedCount (x .count) in
     let whole : take 16 ids ≡ ids = ap (λ (k : ℕ). take k ids) (sym l) ∙ take-length ids in
     let e : p ≡ padded 32 ids = put-start put ∙ overwrite-zeros (take 16 ids) 32 ∙ ap (padded 32) whole in
     let h : n ≤ length ids = omega (arith, stored-le (x .count)) in
-    unused-free (cmd.Stream (x .count)) p ids (ap (take n) e ∙ take-append-le n ids (replicate (32 - length ids) 0) h)
+    f ∙ unused-free (cmd.Stream (x .count)) p ids (ap (take n) e ∙ take-append-le n ids (replicate (32 - length ids) 0) h)
 
 -- what the first test tells
 module _ (c : tie.After-legal) where
@@ -58,7 +58,7 @@ module _ (c : tie.After-legal) where
   asked = c .before .before .before .before .before .before
 
   legal : c .legal .result ≡ streamLegal (asked .args .stream)
-  legal = c .legal .ensures ∙ judged (asked .args .stream) (sixteen asked) (c .before .before .put-part .ensures)
+  legal = judged (asked .args .stream) (sixteen asked) (c .before .before .put-part .ensures) (c .legal .ensures)
 
 returns : tie.Need-returns
 unfolding streamOk idsZero

@@ -1,0 +1,179 @@
+-- What the state record guarantees: the theorems of this crate.
+-- Assumes nothing.
+use mathlib.Core.Path.{_≡_}
+use mathlib.Core.Bool.{Bool, true, false, _&&_}
+use mathlib.Core.List.{List, [], _∷_}
+use Prim.Native.Nat.{ℕ, _*_, _≤_, _<_}
+use lib.Dec.{T, ltb}
+use lib.IntN.{ℤ}
+use lib.ListN.{length, getD, take}
+use Rattle.wire.specs.Lists.{all}
+use Rattle.frame.specs.Push.{emptyPartial}
+use Rattle.frame.specs.Reach.{reachableOf}
+use Rattle.frame.specs.declared.Partial.{Partial}
+use Rattle.packet.specs.Answers.{streamableOf}
+use Rattle.command.specs.CommandTable.{legalOf}
+use Rattle.command.specs.Commands.{message, isSpeed, isRadius, Sendable}
+use Rattle.command.specs.declared.Command.the-variants as cmd
+use Rattle.state.specs.State.{drive, direct, motorsOff, songAt, powerOn, withMode, withMotors, withKept, withSongs, withStream, withPartial, withWheels, withDuties, withBaud, withLeds, withOutputs, withInfrared, withSong, withSelected, withPlaying, withList, withStreaming, stop, toPassive}
+use Rattle.state.specs.Accepted.{isSet, items, typed, acceptedOf, motorsOk, keptOk, songsOk, streamOk}
+use Rattle.state.specs.Cases.{recordCases, casesRight, oddRecords}
+use Rattle.state.specs.declared.Motors.{Motors}
+use Rattle.state.specs.declared.Kept.{Kept}
+use Rattle.state.specs.declared.Song.{Song}
+use Rattle.state.specs.declared.Songs.{Songs}
+use Rattle.state.specs.declared.Stream.{Stream}
+use Rattle.state.specs.declared.State.{State}
+
+-- ---- the setters
+
+-- all of a record but one part
+abbrev pub butMode : State → Motors × (Kept × (Songs × (Stream × Partial)))
+butMode s = (s .motors, (s .kept, (s .songs, (s .stream, s .partial))))
+
+abbrev pub butMotors : State → ℕ × (Kept × (Songs × (Stream × Partial)))
+butMotors s = (s .mode, (s .kept, (s .songs, (s .stream, s .partial))))
+
+abbrev pub butKept : State → ℕ × (Motors × (Songs × (Stream × Partial)))
+butKept s = (s .mode, (s .motors, (s .songs, (s .stream, s .partial))))
+
+abbrev pub butSongs : State → ℕ × (Motors × (Kept × (Stream × Partial)))
+butSongs s = (s .mode, (s .motors, (s .kept, (s .stream, s .partial))))
+
+abbrev pub butStream : State → ℕ × (Motors × (Kept × (Songs × Partial)))
+butStream s = (s .mode, (s .motors, (s .kept, (s .songs, s .partial))))
+
+abbrev pub butPartial : State → ℕ × (Motors × (Kept × (Songs × Stream)))
+butPartial s = (s .mode, (s .motors, (s .kept, (s .songs, s .stream))))
+
+-- a setter of what `get` reads, which keeps what `rest` reads
+pub record Sets {A B : Type 0} (get : State → A) (rest : State → B) (put : A → State → State) : Type 0 where
+  -- what is set is there, and the other parts are kept
+  pub there : (x : A) (s : State) → get (put x s) ≡ x
+  pub others : (x : A) (s : State) → rest (put x s) ≡ rest s
+  -- to set what was there changes nothing, and what is set last counts: so nothing else of the part is changed either
+  pub again : (s : State) → put (get s) s ≡ s
+  pub last : (x y : A) (s : State) → put y (put x s) ≡ put y s
+
+-- THEOREM: the setters
+pub record SettersRight : Type 0 where
+  pub set-mode : Sets (λ s. s .mode) butMode withMode
+  pub set-motors : Sets (λ s. s .motors) butMotors withMotors
+  pub set-kept : Sets (λ s. s .kept) butKept withKept
+  pub set-songs : Sets (λ s. s .songs) butSongs withSongs
+  pub set-stream : Sets (λ s. s .stream) butStream withStream
+  pub set-partial : Sets (λ s. s .partial) butPartial withPartial
+  -- within a part
+  pub set-wheels : Sets {A = ℕ × (ℤ × ℤ)} (λ s. (s .motors .order, (s .motors .first, s .motors .second))) butMotors
+      (λ x. withWheels (x .0) (x .1 .0) (x .1 .1))
+  pub set-duties : Sets (λ s. s .motors .duties) butMotors withDuties
+  pub set-baud : Sets (λ s. s .kept .baud) butKept withBaud
+  pub set-leds : Sets (λ s. s .kept .leds) butKept withLeds
+  pub set-outputs : Sets (λ s. s .kept .outputs) butKept withOutputs
+  pub set-infrared : Sets (λ s. s .kept .ir) butKept withInfrared
+  pub set-selected : Sets (λ s. s .songs .selected) butSongs withSelected
+  pub set-playing : Sets (λ s. s .songs .playing) butSongs withPlaying
+  pub set-list : Sets {A = ℕ × List ℕ} (λ s. (s .stream .count, s .stream .ids)) butStream (λ x. withList (x .0) (x .1))
+  pub set-streaming : Sets (λ s. s .stream .on) butStream withStreaming
+  -- one of the 16 songs, and not the others
+  pub song-there : (n : ℕ) (x : Song) (s : State) → n < length (s .songs .table) → songAt (withSong n x s .songs) n ≡ x
+  pub song-other : (n k : ℕ) (x : Song) (s : State) → (k ≡ n → ⊥) → songAt (withSong n x s .songs) k ≡ songAt (s .songs) k
+  pub song-selected : (n : ℕ) (x : Song) (s : State) → withSong n x s .songs .selected ≡ s .songs .selected
+  pub song-playing : (n : ℕ) (x : Song) (s : State) → withSong n x s .songs .playing ≡ s .songs .playing
+  pub song-others : (n : ℕ) (x : Song) (s : State) → butSongs (withSong n x s) ≡ butSongs s
+
+-- ---- power-on and stop
+
+-- THEOREM: power-on, in document 01's words
+pub record PowerOnRight : Type 0 where
+  pub mode-off : powerOn .mode ≡ 0
+  pub motors-off : motorsOff (powerOn .motors) ≡ true
+  pub no-songs : (n : ℕ) → isSet (songAt (powerOn .songs) n) ≡ false
+  pub selected-0 : powerOn .songs .selected ≡ 0
+  pub not-playing : powerOn .songs .playing ≡ false
+  pub empty-list : powerOn .stream .count ≡ 0
+  pub streaming-off : powerOn .stream .on ≡ false
+  pub baud-10 : powerOn .kept .baud ≡ 10
+  pub leds-0 : powerOn .kept .leds ≡ 0 ∷ 0 ∷ 0 ∷ []
+  pub outputs-0 : powerOn .kept .outputs ≡ 0
+  pub infrared-0 : powerOn .kept .ir ≡ 0
+  pub nothing-held : powerOn .partial ≡ emptyPartial
+  pub power-on-accepted : T (acceptedOf powerOn)
+
+-- THEOREM: stop, and motors off
+pub record StopRight : Type 0 where
+  pub stop-off : (s : State) → motorsOff (stop s .motors) ≡ true
+  pub stop-others : (s : State) → butMotors (stop s) ≡ butMotors s
+  -- motors are off only so
+  pub off-order : (m : Motors) → motorsOff m ≡ true → m .order ≡ 0
+  pub off-duties : (m : Motors) → motorsOff m ≡ true → (i : ℕ) → getD (m .duties) i 0 ≡ 0
+  pub off-so : (m : Motors) → m .order ≡ 0 → m .duties ≡ 0 ∷ 0 ∷ 0 ∷ [] → motorsOff m ≡ true
+
+-- ---- accepted
+
+-- THEOREM: records in numbers
+pub record RecordsInNumbers : Type 0 where
+  pub records-right : T (casesRight 0 recordCases)
+  -- there are cases for every item
+  pub every-item : (s : State) → length recordCases ≡ length (items s)
+  pub no-item-without : T (all (λ cs. ltb 0 (length cs)) recordCases)
+  pub odd-accepted : T (all acceptedOf oddRecords)
+
+-- document 01's list in plain numbers
+pub record Plain (s : State) : Type 0 where
+  pub mode-is : s .mode ≤ 3
+  pub order-is : s .motors .order ≤ 2
+  pub off-unless-driven : s .mode ≤ 1 → motorsOff (s .motors) ≡ true
+  pub drive-is : s .motors .order ≡ 1 → (isSpeed (s .motors .first) && isRadius (s .motors .second)) ≡ true
+  pub direct-is : s .motors .order ≡ 2 → (isSpeed (s .motors .first) && isSpeed (s .motors .second)) ≡ true
+  pub duties-are : (i : ℕ) → i < 3 → getD (s .motors .duties) i 0 ≤ 128
+  pub outputs-are : s .kept .outputs ≤ 7
+  pub baud-is : s .kept .baud ≤ 11
+  pub selected-is : s .songs .selected ≤ 15
+  pub count-is : s .stream .count ≤ 16
+  pub list-is : streamableOf (take (s .stream .count) (s .stream .ids)) ≡ true
+  pub lengths-are : (n : ℕ) → n < 16 → songAt (s .songs) n .len ≤ 16
+  pub playing-set : s .songs .playing ≡ true → 0 < songAt (s .songs) (s .songs .selected) .len
+  pub notes-zero : (n i : ℕ) → n < 16 → 2 * songAt (s .songs) n .len ≤ i → getD (songAt (s .songs) n .notes) i 0 ≡ 0
+  pub ids-zero : (i : ℕ) → s .stream .count ≤ i → getD (s .stream .ids) i 0 ≡ 0
+  pub partial-is : reachableOf (s .partial) ≡ true
+
+-- THEOREM: of the values of the type those are accepted, and no others
+pub record AcceptedExactly : Type 0 where
+  pub tells : (s : State) → T (acceptedOf s) → T (typed s) × Plain s
+  pub no-other : (s : State) → T (typed s) → Plain s → T (acceptedOf s)
+
+-- ---- what keeps a record accepted
+
+-- of an accepted record
+pub record StaysAccepted (s : State) : Type 0 where
+  -- with another part
+  pub mode-kept : (m : ℕ) → m ≤ 3 → (m ≤ 1 → motorsOff (s .motors) ≡ true) → T (acceptedOf (withMode m s))
+  pub motors-kept : (m : Motors) → T (motorsOk (s .mode) m) → T (acceptedOf (withMotors m s))
+  pub kept-kept : (k : Kept) → T (keptOk k) → T (acceptedOf (withKept k s))
+  pub songs-kept : (x : Songs) → T (songsOk x) → T (acceptedOf (withSongs x s))
+  pub stream-kept : (x : Stream) → T (streamOk x) → T (acceptedOf (withStream x s))
+  pub partial-kept : (p : Partial) → T (reachableOf p) → T (acceptedOf (withPartial p s))
+  -- a Stop with Passive
+  pub passive-kept : T (acceptedOf (toPassive s))
+  -- what a command with legal data sets: the wheels and duties in Safe and Full
+  pub drive-kept : (v r : ℤ) (p : List ℕ) → 1 < s .mode → T (legalOf (message (cmd.Drive v r) p)) → T (acceptedOf (withWheels drive v r s))
+  pub direct-kept : (v w : ℤ) (p : List ℕ) → 1 < s .mode → T (legalOf (message (cmd.Direct v w) p)) → T (acceptedOf (withWheels direct v w s))
+  pub duties-kept : (a b d : ℕ) (p : List ℕ) → 1 < s .mode → T (legalOf (message (cmd.Duties d b a) p)) → T (acceptedOf (withDuties (a ∷ b ∷ d ∷ []) s))
+  pub baud-kept : (n : ℕ) (p : List ℕ) → T (legalOf (message (cmd.Baud n) p)) → T (acceptedOf (withBaud n s))
+  pub leds-kept : (a b d : ℕ) (p : List ℕ) → T (legalOf (message (cmd.Leds a b d) p)) → T (acceptedOf (withLeds (a ∷ b ∷ d ∷ []) s))
+  pub outputs-kept : (n : ℕ) (p : List ℕ) → T (legalOf (message (cmd.Outputs n) p)) → T (acceptedOf (withOutputs n s))
+  pub infrared-kept : (n : ℕ) (p : List ℕ) → T (legalOf (message (cmd.Infrared n) p)) → T (acceptedOf (withInfrared n s))
+  -- a song as it is read, and a set song that is played
+  pub song-kept : (n len : ℕ) (p : List ℕ) → Sendable (message (cmd.Song n len) p)
+      → T (acceptedOf (withSong n (record { len = len; notes = p }) s))
+  pub play-kept : (n : ℕ) (p : List ℕ) → T (legalOf (message (cmd.Play n) p)) → T (isSet (songAt (s .songs) n))
+      → T (acceptedOf (withPlaying true (withSelected n s)))
+  pub silent-kept : T (acceptedOf (withPlaying false s))
+  -- a list as it is read
+  pub list-kept : (n : ℕ) (p : List ℕ) → Sendable (message (cmd.Stream n) p) → T (acceptedOf (withList n (take 16 p) s))
+  pub streaming-kept : (b : Bool) → T (acceptedOf (withStreaming b s))
+
+-- THEOREM
+abbrev pub AcceptedStays : Type 0
+AcceptedStays = (s : State) → T (acceptedOf s) → StaysAccepted s
