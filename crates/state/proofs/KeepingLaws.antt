@@ -197,19 +197,19 @@ module _ (s : State) (t : T (acceptedOf s)) where
 
   kept-typed : (byteArray 3 (s .kept .leds) ≡ true) × (isByte (s .kept .ir) ≡ true)
   unfolding keptTyped
-  kept-typed = both (byteArray 3 (s .kept .leds)) (isByte (s .kept .ir)) (k .typed)
+  kept-typed = both (byteArray 3 (s .kept .leds)) (isByte (s .kept .ir)) (k .first)
 
   pub baud-kept : (n : ℕ) (q : List ℕ) → T (legalOf (message (cmd.Baud n) q)) → T (acceptedOf (withBaud n s))
   unfolding keptTyped outputsLegal baudLegal
   baud-kept n q u =
       kept-of (withBaud n s .kept)
-      (record { typed = k .typed; outputs = k .outputs; baud = unused-free (cmd.Baud n) (replicate 32 0) q refl ∙ is-true _ u })
+      (record { first = k .first; second = k .second; third = unused-free (cmd.Baud n) (replicate 32 0) q refl ∙ is-true _ u })
 
   pub outputs-kept : (n : ℕ) (q : List ℕ) → T (legalOf (message (cmd.Outputs n) q)) → T (acceptedOf (withOutputs n s))
   unfolding keptTyped outputsLegal baudLegal
   outputs-kept n q u =
       kept-of (withOutputs n s .kept)
-      (record { typed = k .typed; outputs = unused-free (cmd.Outputs n) (replicate 32 0) q refl ∙ is-true _ u; baud = k .baud })
+      (record { first = k .first; second = unused-free (cmd.Outputs n) (replicate 32 0) q refl ∙ is-true _ u; third = k .third })
 
   pub leds-kept : (a b d : ℕ) (q : List ℕ) → T (legalOf (message (cmd.Leds a b d) q)) → T (acceptedOf (withLeds (a ∷ b ∷ d ∷ []) s))
   unfolding keptTyped outputsLegal baudLegal rowOf legalOf
@@ -220,13 +220,13 @@ module _ (s : State) (t : T (acceptedOf s)) where
       let g = leb-true b 255 (j .0) in
       let h = leb-true d 255 (j .1) in
       kept-of (withLeds (a ∷ b ∷ d ∷ []) s .kept)
-      (record { typed = simp (three-bytes a b d (omega arith) (omega arith) (omega arith), kept-typed .1); outputs = k .outputs; baud = k .baud })
+      (record { first = simp (three-bytes a b d (omega arith) (omega arith) (omega arith), kept-typed .1); second = k .second; third = k .third })
 
   pub infrared-kept : (n : ℕ) (q : List ℕ) → T (legalOf (message (cmd.Infrared n) q)) → T (acceptedOf (withInfrared n s))
   unfolding keptTyped outputsLegal baudLegal rowOf legalOf
   infrared-kept n q u =
       let h = leb-true n 255 (byte-legal 255 n ∙ is-true _ u) in
-      kept-of (withInfrared n s .kept) (record { typed = simp (kept-typed .0, lt-ltb n 256 (omega arith)); outputs = k .outputs; baud = k .baud })
+      kept-of (withInfrared n s .kept) (record { first = simp (kept-typed .0, lt-ltb n 256 (omega arith)); second = k .second; third = k .third })
 
   -- ---- songs
 
@@ -307,13 +307,13 @@ module _ (s : State) (t : T (acceptedOf s)) where
       (to-T (streamOk (withList n ids s .stream))
       (stream-right (withList n ids s .stream)
       (record {
-        typed = is-true _ (yes-and (eqb (length ids) 16) (allBytes ids) (yes-eqb sixteen) (all-take isByte 16 q (a .1)));
-        legal = unused-free (cmd.Stream n) ids q (take-take (storedCount n) 16 q (stored-le n)) ∙ d .legal;
-        unused = is-true _ (zeros-later ids n zero);
+        first = is-true _ (yes-and (eqb (length ids) 16) (allBytes ids) (yes-eqb sixteen) (all-take isByte 16 q (a .1)));
+        second = unused-free (cmd.Stream n) ids q (take-take (storedCount n) 16 q (stored-le n)) ∙ d .legal;
+        third = is-true _ (zeros-later ids n zero);
       })))
 
   pub streaming-kept : (b : Bool) → T (acceptedOf (withStreaming b s))
   unfolding streamTyped streamLegal idsZero
   streaming-kept b =
       let n = withStreaming b s .stream in
-      stream-kept n (to-T (streamOk n) (stream-right n (record { typed = l .typed; legal = l .legal; unused = l .unused })))
+      stream-kept n (to-T (streamOk n) (stream-right n (record { first = l .first; second = l .second; third = l .third })))

@@ -45,24 +45,43 @@ module _ (mode : ℕ) (m : Motors) where
   unfolding motorsOk
   motors-right r = simp (r .typed, r .mode-named, r .order-named, r .off, r .wheels, r .duties)
 
--- ---- what is kept
+-- ---- what is kept, and the stream list: three tests each
 
-pub record KeptRight (k : Kept) : Type 0 where
-  pub typed : keptTyped k ≡ true
-  pub outputs : outputsLegal k ≡ true
-  pub baud : baudLegal k ≡ true
+pub record Three (a b c : Bool) : Type 0 where
+  pub first : a ≡ true
+  pub second : b ≡ true
+  pub third : c ≡ true
 
-module _ (k : Kept) where
-  pub kept-facts : keptOk k ≡ true → KeptRight k
-  unfolding keptOk
-  kept-facts e =
-      let a = both (keptTyped k) (outputsLegal k && baudLegal k) e in
-      let b = both (outputsLegal k) (baudLegal k) (a .1) in
-      record { typed = a .0; outputs = b .0; baud = b .1 }
+three-facts : (a b c : Bool) → (a && (b && c)) ≡ true → Three a b c
+three-facts a b c e =
+    let i = both a (b && c) e in
+    let j = both b c (i .1) in
+    record { first = i .0; second = j .0; third = j .1 }
 
-  pub kept-right : KeptRight k → keptOk k ≡ true
-  unfolding keptOk
-  kept-right r = simp (r .typed, r .outputs, r .baud)
+three-right : {a b c : Bool} → Three a b c → (a && (b && c)) ≡ true
+three-right r = simp (r .first, r .second, r .third)
+
+abbrev pub KeptRight : Kept → Type 0
+KeptRight k = Three (keptTyped k) (outputsLegal k) (baudLegal k)
+
+pub kept-facts : (k : Kept) → keptOk k ≡ true → KeptRight k
+unfolding keptOk
+kept-facts k = three-facts (keptTyped k) (outputsLegal k) (baudLegal k)
+
+pub kept-right : (k : Kept) → KeptRight k → keptOk k ≡ true
+unfolding keptOk
+kept-right k r = three-right r
+
+abbrev pub StreamRight : Stream → Type 0
+StreamRight x = Three (streamTyped x) (streamLegal x) (idsZero x)
+
+pub stream-facts : (x : Stream) → streamOk x ≡ true → StreamRight x
+unfolding streamOk
+stream-facts x = three-facts (streamTyped x) (streamLegal x) (idsZero x)
+
+pub stream-right : (x : Stream) → StreamRight x → streamOk x ≡ true
+unfolding streamOk
+stream-right x r = three-right r
 
 -- ---- the songs
 
@@ -89,25 +108,6 @@ module _ (x : Songs) where
 each-song : (l : List Song) → all songOk l ≡ (all songTyped l && (all lengthLegal l && all notesZero l))
 unfolding songOk
 each-song l = all-and songTyped (λ x. lengthLegal x && notesZero x) l ∙ ap (λ (b : Bool). all songTyped l && b) (all-and lengthLegal notesZero l)
-
--- ---- the stream list
-
-pub record StreamRight (x : Stream) : Type 0 where
-  pub typed : streamTyped x ≡ true
-  pub legal : streamLegal x ≡ true
-  pub unused : idsZero x ≡ true
-
-module _ (x : Stream) where
-  pub stream-facts : streamOk x ≡ true → StreamRight x
-  unfolding streamOk
-  stream-facts e =
-      let a = both (streamTyped x) (streamLegal x && idsZero x) e in
-      let b = both (streamLegal x) (idsZero x) (a .1) in
-      record { typed = a .0; legal = b .0; unused = b .1 }
-
-  pub stream-right : StreamRight x → streamOk x ≡ true
-  unfolding streamOk
-  stream-right r = simp (r .typed, r .legal, r .unused)
 
 -- ---- the record
 
@@ -173,23 +173,23 @@ module _ (s : State) where
       to-T (acceptedOf s)
       (simp (
         m .typed,
-        k .typed,
+        k .first,
         x .sixteen,
         e .0,
-        st .typed,
+        st .first,
         m .mode-named,
         m .order-named,
         m .off,
         m .wheels,
         m .duties,
-        k .outputs,
-        k .baud,
+        k .second,
+        k .third,
         x .selected,
-        st .legal,
+        st .second,
         f .0,
         x .playing,
         f .1,
-        st .unused,
+        st .third,
         p .partial,
       ))
 

@@ -207,11 +207,8 @@ fn songs_ok(songs: Songs) -> bool
     if !is_legal(Command::Play(selected)) {
         return false;
     }
-    if songs.playing {
-        let song = table[selected as usize];
-        if song.len == 0 {
-            return false;
-        }
+    if songs.playing && table[selected as usize].len == 0 {
+        return false;
     }
     table_ok(table)
 }

@@ -7,8 +7,8 @@ use Prim.Native.Nat.{_<_, _≤_}
 use native.Mathlib.Omega.{arith}
 use lib.ListN.{length, getD, length-map}
 use borrow.Author.Needs.{needs}
-use borrow.Author.Tests.{eq-eqb, ne-eqb, not-true, not-false, leb-true}
-use Rattle.wire.specs.Lists.{all}
+use borrow.Author.Tests.{eq-eqb, not-true, not-false, leb-true}
+use Rattle.wire.specs.Lists.{all, isZero}
 use Rattle.wire.proofs.ListsLaws.{getD-any}
 use mathlib.Core.List.{[]}
 use Rattle.state.specs.State.{unset, songAt}
@@ -45,29 +45,27 @@ module _ (c : tie.Else1) where
   unfolding songsOk
   left-over = simp (eq-eqb _ _ (sixteen asked), legal)
 
-array-copy-out-song : tie.Need-array-copy-out-song
-array-copy-out-song c = in-table (c .before)
+element-copy-out-if3 : tie.Need-element-copy-out-if3
+element-copy-out-if3 c = in-table (c .before)
 
--- the selected song's length, as it is read
-length-read : (c : tie.Else1)
+-- whether the selected song is set, as it is read
+set-read : (c : tie.Else1)
     → let x = asked c .args .songs in
-    songAt x (x .selected) .len ≡ getD (x .table) (x .selected) (record { len = 0; notes = [] }) .len
-length-read c =
+    isZero (songAt x (x .selected) .len) ≡ isZero (getD (x .table) (x .selected) (record { len = 0; notes = [] }) .len)
+set-read c =
     let x = asked c .args .songs in
     let h : x .selected < length (x .table) = omega (arith, in-table c, sixteen (asked c)) in
-    ap (λ (song : Song). song .len) (getD-any (x .table) (x .selected) unset (record { len = 0; notes = [] }) h)
+    ap (λ (song : Song). isZero (song .len)) (getD-any (x .table) (x .selected) unset (record { len = 0; notes = [] }) h)
 
 returns-2 : tie.Need-returns-2
 unfolding playingSet
 returns-2 c =
-    let first = c .before .before .before .before in
-    sym (left-over first ∙ simp (c .before .before .before .if2 .taken, eq-eqb _ _ (length-read first ∙ c .if3 .taken)))
+    let first = c .before .before in
+    sym (left-over first ∙ simp (c .before .if2 .taken, set-read first ∙ c .if3 .taken))
 
 playing : (c : tie.Joined2) → playingSet (asked (c .before) .args .songs) ≡ true
 unfolding playingSet
-playing c =
-    let first = c .before in
-    ⊎-elim (λ w. simp (w .0 .taken, ne-eqb _ 0 (λ e. w .3 .left (sym (length-read first) ∙ e)))) (λ w. simp (w .left)) (c .if2 .came)
+playing c = ⊎-elim (λ w. simp (w .0 .taken, set-read (c .before) ∙ w .1 .left)) (λ w. simp (w .left)) (c .if2 .came)
 
 returns-3 : tie.Need-returns-3
 returns-3 c = c .table-ok .ensures ∙ sym (left-over (c .before .before) ∙ simp (playing (c .before)))
@@ -80,7 +78,7 @@ songs-ok-spec =
     returns
     (λ c. search needs)
     (λ c. search needs)
-    array-copy-out-song
+    element-copy-out-if3
     returns-2
     (λ c κs. search needs)
     returns-3)
