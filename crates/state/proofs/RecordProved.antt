@@ -81,7 +81,17 @@ power-on-right =
 
 pub stop-right : StopRight
 unfolding motorsOff
-stop-right = record { stop-off = λ s. refl; stop-others = λ s. refl; off-order = off-order; off-duties = off-duties; off-so = off-so }
+stop-right =
+    record {
+      stop-off = λ s. refl;
+      stop-others = λ s. refl;
+      passive-mode = λ s. refl;
+      passive-off = λ s. refl;
+      passive-others = λ s. refl;
+      off-order = off-order;
+      off-duties = off-duties;
+      off-so = off-so;
+    }
 
 -- ---- accepted
 

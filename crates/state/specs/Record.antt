@@ -104,6 +104,10 @@ pub record PowerOnRight : Type 0 where
 pub record StopRight : Type 0 where
   pub stop-off : (s : State) → motorsOff (stop s .motors) ≡ true
   pub stop-others : (s : State) → butMotors (stop s) ≡ butMotors s
+  -- Passive with a stop: with its mode and its motors back the record is the old one
+  pub passive-mode : (s : State) → toPassive s .mode ≡ 1
+  pub passive-off : (s : State) → motorsOff (toPassive s .motors) ≡ true
+  pub passive-others : (s : State) → withMode (s .mode) (withMotors (s .motors) (toPassive s)) ≡ s
   -- motors are off only so
   pub off-order : (m : Motors) → motorsOff m ≡ true → m .order ≡ 0
   pub off-duties : (m : Motors) → motorsOff m ≡ true → (i : ℕ) → getD (m .duties) i 0 ≡ 0
