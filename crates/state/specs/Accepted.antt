@@ -35,7 +35,7 @@ orderNamed m = among (noOrder ∷ drive ∷ direct ∷ []) (m .order)
 unfoldable pub offUnlessDriven : ℕ → Motors → Bool
 offUnlessDriven mode m = not (among (off ∷ passive ∷ []) mode) || motorsOff m
 
--- 'outside the ranges above': of the numbers of a command they are its legal data
+-- 'outside the ranges above': those are the legal data of the command that sets the field; here of one that uses no payload
 abbrev pub legalNumbers : Command → Bool
 legalNumbers c = legalOf (message c (replicate 32 0))
 
@@ -66,7 +66,7 @@ selectedLegal x = legalNumbers (cmd.Play (x .selected))
 unfoldable pub streamLegal : Stream → Bool
 streamLegal x = legalOf (message (cmd.Stream (x .count)) (x .ids))
 
--- 'song length (0 is "not set")': the length is 140's second number, whatever the first
+-- 'song length (0 is "not set")': else the second number of a 140, here of song 0
 unfoldable pub lengthLegal : Song → Bool
 lengthLegal song = isZero (song .len) || legalNumbers (cmd.Song 0 (song .len))
 

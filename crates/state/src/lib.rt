@@ -8,9 +8,9 @@
 //     partial    the held frame
 //
 // The caller hands a record in with each call, so it may be any value of the type; a bad one is refused with 8.
-// Proved (specs/Keeping.antt): the power-on record is accepted, and what a command sets keeps a record accepted under the condition on what it sets.
+// Proved (specs/Record.antt): which records are accepted, exactly; the power-on record is; and what a command sets keeps a record accepted, under the condition on
+// what it sets.
 ghost use mathlib.Core.Path.{_≡_};
-ghost use mathlib.Core.List.{List};
 ghost use Rattle.wire.specs.Lists.{all};
 ghost use Rattle.frame.specs.Reach.{reachableOf};
 ghost use Rattle.state.specs.State.{powerOn, motorsOff};
@@ -119,7 +119,7 @@ pub fn power_on() -> State
     }
 }
 
-// Whether a command with no payload has legal data: the ranges of the record are those of the commands that set it.
+// Whether a command that uses no payload has legal data: the ranges of the record are those of the commands that set it.
 fn is_legal(command: Command) -> bool
     ensures { λ r. ⌜ r ≡ legalNumbers command ⌝ }
 {
@@ -129,6 +129,7 @@ fn is_legal(command: Command) -> bool
     })
 }
 
+// A Drive order of velocity 0 is not off.
 fn motors_off(motors: Motors) -> bool
     ensures { λ r. ⌜ r ≡ motorsOff motors ⌝ }
 {
@@ -136,6 +137,7 @@ fn motors_off(motors: Motors) -> bool
     motors.order == NO_ORDER && wire::clear_from(&duties, 0)
 }
 
+// In Off and in Passive.
 fn off_unless_driven(mode: u8, motors: Motors) -> bool
     ensures { λ r. ⌜ r ≡ offUnlessDriven mode motors ⌝ }
 {
@@ -171,6 +173,7 @@ fn motors_ok(mode: u8, motors: Motors) -> bool
             && (off_unless_driven(mode, motors) && (wheels_legal(motors) && duties_legal(motors))))
 }
 
+// The LEDs and the IR byte may be any bytes.
 fn kept_ok(kept: Kept) -> bool
     ensures { λ r. ⌜ r ≡ keptOk kept ⌝ }
 {
@@ -185,6 +188,7 @@ fn song_ok(song: Song) -> bool
     len <= frame::LEGAL_COUNT && wire::clear_from(&notes, 2 * (len as usize))
 }
 
+// Each of the 16 songs.
 fn table_ok(table: [Song; 16]) -> bool
     ensures { λ r. ⌜ r ≡ all songOk table ⌝ }
 {
@@ -213,7 +217,7 @@ fn songs_ok(songs: Songs) -> bool
     table_ok(table)
 }
 
-// The list as 148 would send it.
+// The list is judged as 148 would send it, so that its rule on sizes is asked where the command asks it.
 fn stream_ok(stream: Stream) -> bool
     ensures { λ r. ⌜ r ≡ streamOk stream ⌝ }
 {
