@@ -54,7 +54,7 @@ mode-of m h = mode-named m (omega arith) ∙ le-leb m 3 h
 
 -- ---- a kind of wheel order
 
-pub order-named : (m : Motors) → m .order < 256 → orderNamed m ≡ leb (m .order) 2
+order-named : (m : Motors) → m .order < 256 → orderNamed m ≡ leb (m .order) 2
 unfolding orderNamed
 order-named m h = sym (alike (λ k. leb k 2) (among (0 ∷ 1 ∷ 2 ∷ [])) tt (m .order) h)
 
@@ -79,11 +79,6 @@ module _ (mode : ℕ) (m : Motors) where
   off-of a f =
       unless-driven (omega arith)
       ∙ ⊎-elim (λ (h : mode ≤ 1). simp (le-leb mode 1 h, f h)) (λ (h : 1 < mode). simp (lt-leb mode 1 h)) (le-or-lt mode 1)
-
-  pub motors-tested : mode < 256 → m .order < 256 → motorsTyped m ≡ true
-      → motorsOk mode m ≡ (leb mode 3 && (leb (m .order) 2 && (offUnlessDriven mode m && (wheelsLegal m && dutiesLegal m))))
-  unfolding motorsOk
-  motors-tested a b t = simp (t, mode-named mode a, order-named m b)
 
 -- ---- a wheel order
 
@@ -131,6 +126,21 @@ module _ (m : Motors) where
   duties-of f =
       duties-tested
       ∙ simp (le-leb (getD (m .duties) 2 0) 128 (f 2 (omega arith)), le-leb (getD (m .duties) 1 0) 128 (f 1 (omega arith)), le-leb (getD (m .duties) 0 0) 128 (f 0 (omega arith)))
+
+-- ---- the motors, as the code tests them
+
+-- the kind is looked at with its numbers, after the mode
+regroup : (kind off wheels duties : Bool) → (kind && (off && (wheels && duties))) ≡ (off && ((kind && wheels) && duties))
+regroup true true w d = refl
+regroup true false w d = refl
+regroup false true w d = refl
+regroup false false w d = refl
+
+pub motors-tested : (mode : ℕ) (m : Motors) → mode < 256 → motorsTyped m ≡ true
+    → motorsOk mode m ≡ (leb mode 3 && (offUnlessDriven mode m && ((orderNamed m && wheelsLegal m) && dutiesLegal m)))
+unfolding motorsOk
+motors-tested mode m a t =
+    simp (t, mode-named mode a, regroup (orderNamed m) (offUnlessDriven mode m) (wheelsLegal m) (dutiesLegal m))
 
 -- ---- output, baud code, selected song
 

@@ -11,10 +11,11 @@
 // Proved (specs/Record.antt): which records are accepted, exactly; the power-on record is; and what a command sets keeps a record accepted, under the condition on
 // what it sets.
 ghost use mathlib.Core.Path.{_≡_};
+ghost use mathlib.Core.Bool.{_&&_};
 ghost use Rattle.wire.specs.Lists.{all};
 ghost use Rattle.frame.specs.Reach.{reachableOf};
 ghost use Rattle.state.specs.State.{powerOn, motorsOff};
-ghost use Rattle.state.specs.Accepted.{offUnlessDriven, legalNumbers, wheelsLegal, dutiesLegal, motorsOk, keptOk, songOk, songsOk, streamOk, acceptedOf};
+ghost use Rattle.state.specs.Accepted.{orderNamed, offUnlessDriven, legalNumbers, wheelsLegal, dutiesLegal, motorsOk, keptOk, songOk, songsOk, streamOk, acceptedOf};
 use command::Command;
 use command::Message;
 use frame::Partial;
@@ -144,16 +145,17 @@ fn off_unless_driven(mode: u8, motors: Motors) -> bool
     mode > command::PASSIVE || motors_off(motors)
 }
 
-fn wheels_legal(motors: Motors) -> bool
-    ensures { λ r. ⌜ r ≡ wheelsLegal motors ⌝ }
+// The kind is one that is named, and its numbers are legal; those of no order may be anything.
+fn wheels_ok(motors: Motors) -> bool
+    ensures { λ r. ⌜ r ≡ (orderNamed motors && wheelsLegal motors) ⌝ }
 {
-    if motors.order == DRIVE {
-        return is_legal(Command::Drive(motors.first, motors.second));
+    let order = motors.order;
+    match order {
+        NO_ORDER => true,
+        DRIVE => is_legal(Command::Drive(motors.first, motors.second)),
+        DIRECT => is_legal(Command::Direct(motors.first, motors.second)),
+        _ => false,
     }
-    if motors.order == DIRECT {
-        return is_legal(Command::Direct(motors.first, motors.second));
-    }
-    true
 }
 
 fn duties_legal(motors: Motors) -> bool
@@ -169,8 +171,7 @@ fn motors_ok(mode: u8, motors: Motors) -> bool
     ensures { λ r. ⌜ r ≡ motorsOk mode motors ⌝ }
 {
     mode <= command::FULL
-        && (motors.order <= DIRECT
-            && (off_unless_driven(mode, motors) && (wheels_legal(motors) && duties_legal(motors))))
+        && (off_unless_driven(mode, motors) && (wheels_ok(motors) && duties_legal(motors)))
 }
 
 // The LEDs and the IR byte may be any bytes.

@@ -11,7 +11,7 @@ use mir.Val.{Fits, SFits}
 use borrow.Author.Needs.{needs}
 use borrow.Author.Tests.{le-leb, lt-leb}
 use Rattle.wire.proofs.ListsLaws.{array-true}
-use Rattle.state.specs.Accepted.{offUnlessDriven, wheelsLegal, dutiesLegal, motorsTyped, motorsOk}
+use Rattle.state.specs.Accepted.{orderNamed, offUnlessDriven, wheelsLegal, dutiesLegal, motorsTyped, motorsOk}
 use Rattle.state.proofs.AcceptedLaws.{word-true, motors-tested}
 use Rattle.state.proofs.motors_ok.Statement.{statement}
 use Rattle.state.proofs.motors_ok.Tie as tie
@@ -30,46 +30,37 @@ typed c =
 tested : (c : tie.Start)
     → let a = c .args in
     motorsOk (a .mode) (a .motors)
-    ≡ (leb (a .mode) 3 && (leb (a .motors .order) 2 && (offUnlessDriven (a .mode) (a .motors) && (wheelsLegal (a .motors) && dutiesLegal (a .motors)))))
+    ≡ (leb (a .mode) 3 && (offUnlessDriven (a .mode) (a .motors) && ((orderNamed (a .motors) && wheelsLegal (a .motors)) && dutiesLegal (a .motors))))
 tested c =
     let f : Fits w8 (c .args .mode) = search needs in
-    let g : Fits w8 (c .args .motors .order) = search needs in
-    motors-tested (c .args .mode) (c .args .motors) (omega arith) (omega arith) (typed c)
+    motors-tested (c .args .mode) (c .args .motors) (omega arith) (typed c)
 
--- what is left of it, once the first tests are passed
-abbrev asked : tie.Then2 → tie.Start
-asked c = c .before .before .before
-
-named : (c : tie.Then2)
-    → let a = asked c .args in
-    motorsOk (a .mode) (a .motors) ≡ (offUnlessDriven (a .mode) (a .motors) && (wheelsLegal (a .motors) && dutiesLegal (a .motors)))
-named c = tested (asked c) ∙ simp (le-leb _ _ (c .before .before .if1 .taken), le-leb _ _ (c .if2 .taken))
-
-at-rest : (c : tie.Then3)
-    → let a = asked (c .before .before) .args in
-    motorsOk (a .mode) (a .motors) ≡ (wheelsLegal (a .motors) && dutiesLegal (a .motors))
-at-rest c = named (c .before .before) ∙ simp (sym (c .before .off-unless-driven .ensures) ∙ c .if3 .taken)
+-- what is left of it, once the first two tests are passed
+at-rest : (c : tie.Then2)
+    → let a = c .before .before .before .args in
+    motorsOk (a .mode) (a .motors) ≡ ((orderNamed (a .motors) && wheelsLegal (a .motors)) && dutiesLegal (a .motors))
+at-rest c =
+    tested (c .before .before .before)
+    ∙ simp (le-leb _ _ (c .before .before .if1 .taken), sym (c .before .off-unless-driven .ensures) ∙ c .if2 .taken)
 
 returns : tie.Need-returns
 returns c =
     let wheels = c .before .before in
-    c .duties-legal .ensures ∙ sym (at-rest (wheels .before) ∙ simp (sym (wheels .wheels-legal .ensures) ∙ c .before .if4 .taken))
+    c .duties-legal .ensures ∙ sym (at-rest (wheels .before) ∙ simp (sym (wheels .wheels-ok .ensures) ∙ c .before .if3 .taken))
 
 returns-2 : tie.Need-returns-2
 returns-2 c =
     let wheels = c .before in
-    c .if4 .left ∙ sym (at-rest (wheels .before) ∙ simp (sym (wheels .wheels-legal .ensures) ∙ c .if4 .left))
+    c .if3 .left ∙ sym (at-rest (wheels .before) ∙ simp (sym (wheels .wheels-ok .ensures) ∙ c .if3 .left))
 
 returns-3 : tie.Need-returns-3
-returns-3 c = c .if3 .left ∙ sym (named (c .before .before) ∙ simp (sym (c .before .off-unless-driven .ensures) ∙ c .if3 .left))
+returns-3 c =
+    let off = c .before in
+    c .if2 .left
+    ∙ sym (tested (off .before .before) ∙ simp (le-leb _ _ (off .before .if1 .taken), sym (off .off-unless-driven .ensures) ∙ c .if2 .left))
 
 returns-4 : tie.Need-returns-4
-returns-4 c =
-    let start = c .before .before .before in
-    lt-leb _ _ (c .if2 .left) ∙ sym (tested start ∙ simp (le-leb _ _ (c .before .before .if1 .taken), lt-leb _ _ (c .if2 .left)))
-
-returns-5 : tie.Need-returns-5
-returns-5 c = lt-leb _ _ (c .if1 .left) ∙ sym (tested (c .before) ∙ simp (lt-leb _ _ (c .if1 .left)))
+returns-4 c = lt-leb _ _ (c .if1 .left) ∙ sym (tested (c .before) ∙ simp (lt-leb _ _ (c .if1 .left)))
 
 pub motors-ok-spec : {M : Type 1} → statement M
 motors-ok-spec =
@@ -81,5 +72,4 @@ motors-ok-spec =
     returns
     returns-2
     returns-3
-    returns-4
-    returns-5)
+    returns-4)
