@@ -2,35 +2,31 @@
 -- Assumes nothing.
 use mathlib.Core.Path.{_≡_, refl, sym, ap, _∙_}
 use mathlib.Core.Bool.{Bool, true, false, not, cond, _&&_, _||_}
-use mathlib.Core.List.{[], _∷_}
+use mathlib.Core.List.{List, [], _∷_}
 use mathlib.Core.Logic.{⊎-elim}
 use Prim.Native.Nat.{ℕ, zero, suc, _*_, _≤_, _<_}
 use native.Mathlib.Omega.{arith}
 use lib.Dec.{T, leb, eqb}
 use lib.IntN.{ℤ, pos, negsuc}
 use lib.ListN.{length, getD, take, replicate}
-use mir.Facts.{and-yes}
 use mir.Syntax.{w16}
 use mir.Val.{SFits}
 use borrow.Author.Tests.{leb-true, le-leb, lt-leb, eq-eqb, ne-eqb, eqb-true, not-true}
-use Rattle.wire.specs.Lists.{all, allFrom, among}
-use Rattle.wire.proofs.BoolLaws.{is-true, to-T, not-zero, pos-eqb, le-or-lt}
-use Rattle.wire.proofs.ListsLaws.{from, among-le, all-at, all-of, zero-later, zeros-later}
+use Rattle.wire.specs.Lists.{all, allFrom, among, allBytes, byteArray}
+use Rattle.wire.proofs.BoolLaws.{is-true, to-T, both, not-zero, pos-eqb, le-or-lt}
+use Rattle.wire.proofs.ListsLaws.{from, among-le, byte-at, all-at, all-of, zero-later, zeros-later}
 use Rattle.packet.specs.Answers.{streamableOf}
 use Rattle.command.specs.CommandTable.{isIn, rowOf, legalOf}
 use Rattle.command.specs.Commands.{isSpeed, isRadius}
 use Rattle.command.proofs.CommandTableLaws.{alike, from-off, byte-legal, drive-legal, direct-legal, duties-legal, song-is, stream-legal}
 use Rattle.state.specs.State.{motorsOff, unset, songAt}
 use Rattle.state.specs.Accepted.{modeNamed, orderNamed, offUnlessDriven, wheelsLegal, dutiesLegal, outputsLegal, baudLegal, selectedLegal, streamLegal, lengthLegal, isSet, playingSet, notesZero, idsZero, isWord, motorsTyped, motorsOk}
+use Rattle.state.specs.Record.{Array}
 use Rattle.state.specs.declared.Motors.{Motors}
 use Rattle.state.specs.declared.Kept.{Kept}
 use Rattle.state.specs.declared.Song.{Song}
 use Rattle.state.specs.declared.Songs.{Songs}
 use Rattle.state.specs.declared.Stream.{Stream}
-
--- a test of two that passes
-pub both : (a b : Bool) → (a && b) ≡ true → (a ≡ true) × (b ≡ true)
-both a b e = let s = and-yes a b (to-T (a && b) e) in (is-true a (s .0), is-true b (s .1))
 
 -- ---- i16s
 
@@ -38,6 +34,18 @@ pub word-true : (v : ℤ) → SFits w16 v → isWord v ≡ true
 unfolding isIn
 word-true (pos n) f = le-leb n 32767 (omega (arith, f .sfits))
 word-true (negsuc n) f = simp (le-leb n 32767 (omega (arith, f .sfits)))
+
+pub word-fits : (v : ℤ) → isWord v ≡ true → SFits w16 v
+unfolding isIn
+word-fits (pos n) e = record { sfits = (let h = leb-true n 32767 e in omega arith) }
+word-fits (negsuc n) e = record { sfits = (let h = leb-true n 32767 (both (leb n 32767) true e .0) in omega arith) }
+
+-- ---- arrays of bytes
+
+pub array-is : (n : ℕ) (l : List ℕ) → byteArray n l ≡ true → Array n l
+array-is n l e =
+    let a = both (eqb (length l) n) (allBytes l) e in
+    (eqb-true (length l) n (a .0), byte-at l (to-T (allBytes l) (a .1)))
 
 -- ---- a mode
 

@@ -13,7 +13,7 @@ use lib.Seq.{getD-set-same, getD-set-other, getD-take, take-take, length-take-le
 use mir.Facts.{and-yes, yes-and, yes-eqb}
 use borrow.Author.Tests.{leb-true, le-leb, lt-leb, lt-ltb, eqb-true, eqb-false}
 use Rattle.wire.specs.Lists.{all, isByte, allZero, allBytes, byteArray}
-use Rattle.wire.proofs.BoolLaws.{is-true, to-T, le-or-lt}
+use Rattle.wire.proofs.BoolLaws.{is-true, to-T, both, le-or-lt}
 use Rattle.wire.proofs.ListsLaws.{all-set, all-take, zero-later, zeros-later}
 use Rattle.frame.specs.Reach.{reachableOf}
 use Rattle.frame.specs.declared.Partial.{Partial}
@@ -32,7 +32,7 @@ use Rattle.state.specs.declared.Song.{Song}
 use Rattle.state.specs.declared.Songs.{Songs}
 use Rattle.state.specs.declared.Stream.{Stream}
 use Rattle.state.specs.declared.State.{State}
-use Rattle.state.proofs.AcceptedLaws.{both, mode-of, mode-is, order-of, off-of, length-legal, selected-tested, playing-is, playing-of}
+use Rattle.state.proofs.AcceptedLaws.{mode-of, mode-is, order-of, off-of, length-legal, selected-tested, playing-is, playing-of}
 use Rattle.state.proofs.PartsLaws.{Parts, parts-of, of-parts, MotorsRight, motors-facts, motors-right, KeptRight, kept-facts, kept-right, SongsRight, songs-facts, songs-right, StreamRight, stream-facts, stream-right}
 
 -- ---- words and bytes of legal data

@@ -8,7 +8,7 @@ use lib.Dec.{T, eqb, ltb, ltb→lt}
 use lib.ListN.{length, getD}
 use mir.Facts.{and-yes}
 use Rattle.wire.specs.Lists.{all}
-use Rattle.wire.proofs.BoolLaws.{is-true, to-T, same-truth}
+use Rattle.wire.proofs.BoolLaws.{is-true, to-T, both, same-truth}
 use Rattle.wire.proofs.ListsLaws.{all-at, all-and}
 use Rattle.frame.specs.Reach.{reachableOf}
 use Rattle.state.specs.Accepted.{modeNamed, orderNamed, offUnlessDriven, wheelsLegal, dutiesLegal, outputsLegal, baudLegal, selectedLegal, streamLegal, lengthLegal, playingSet, notesZero, idsZero, items, motorsTyped, keptTyped, songTyped, songsTyped, streamTyped, typed, acceptedOf, motorsOk, keptOk, songOk, songsOk, streamOk}
@@ -18,7 +18,6 @@ use Rattle.state.specs.declared.Song.{Song}
 use Rattle.state.specs.declared.Songs.{Songs}
 use Rattle.state.specs.declared.Stream.{Stream}
 use Rattle.state.specs.declared.State.{State}
-use Rattle.state.proofs.AcceptedLaws.{both}
 
 -- ---- the motors
 

@@ -1,23 +1,25 @@
 -- The theorems of the state record.
 -- Assumes nothing.
 use mathlib.Core.Path.{_≡_, refl, sym, _∙_}
+use mathlib.Core.Bool.{true, _&&_}
 use native.Mathlib.Omega.{arith}
 use lib.Dec.{T, leb}
 use lib.ListN.{length, take}
 use lib.Seq.{getD-set-same, getD-set-other}
 use mir.Facts.{and-yes}
-use borrow.Author.Tests.{leb-true, le-leb, eqb-true}
-use Rattle.wire.specs.Lists.{all}
-use Rattle.wire.proofs.BoolLaws.{is-true, to-T}
+use borrow.Author.Tests.{leb-true, le-leb, ltb-true, lt-ltb, eqb-true, eq-eqb}
+use Rattle.wire.specs.Lists.{all, isByte, byteArray}
+use Rattle.wire.proofs.BoolLaws.{is-true, to-T, both}
+use Rattle.wire.proofs.ListsLaws.{all-at, all-of, array-true}
 use Rattle.frame.specs.FrameTable.{dataLength}
 use Rattle.frame.specs.Push.{bodySizeAs}
 use Rattle.frame.specs.Reach.{reachableOf}
 use Rattle.packet.specs.SizeTable.{sizeOf, groupOf}
 use Rattle.packet.specs.Answers.{listableOf, streamableOf}
 use Rattle.command.specs.CommandTable.{isIn, isLegal, rowOf, legalOf}
-use Rattle.state.specs.State.{motorsOff, unset, powerOn}
-use Rattle.state.specs.Accepted.{modeNamed, orderNamed, offUnlessDriven, wheelsLegal, dutiesLegal, outputsLegal, baudLegal, selectedLegal, streamLegal, lengthLegal, playingSet, notesZero, idsZero, items, motorsTyped, keptTyped, songTyped, songsTyped, streamTyped, typed, acceptedOf}
-use Rattle.state.specs.Record.{Sets, SettersRight, PowerOnRight, StopRight, RecordsInNumbers, Plain, AcceptedExactly, AcceptedStays}
+use Rattle.state.specs.State.{motorsOff, unset, songAt, powerOn}
+use Rattle.state.specs.Accepted.{modeNamed, orderNamed, offUnlessDriven, wheelsLegal, dutiesLegal, outputsLegal, baudLegal, selectedLegal, streamLegal, lengthLegal, playingSet, notesZero, idsZero, items, isWord, motorsTyped, keptTyped, songTyped, songsTyped, streamTyped, typed, acceptedOf}
+use Rattle.state.specs.Record.{Typed, Sets, SettersRight, PowerOnRight, StopRight, RecordsInNumbers, Plain, AcceptedExactly, AcceptedStays}
 use Rattle.state.specs.declared.State.{State}
 use Rattle.state.proofs.StateLaws.{off-order, off-duties, off-so, no-songs}
 use Rattle.state.proofs.AcceptedLaws as accepted
@@ -95,11 +97,51 @@ stop-right =
 
 -- ---- accepted
 
+typed-tells : (s : State) → T (typed s) → Typed s
+unfolding motorsTyped keptTyped songTyped streamTyped
+typed-tells s t =
+    let r = typed-of s t in
+    let m = s .motors in
+    let a = both (isWord (m .first)) (isWord (m .second) && byteArray 3 (m .duties)) (r .motors) in
+    let b = both (isWord (m .second)) (byteArray 3 (m .duties)) (a .1) in
+    let k = both (byteArray 3 (s .kept .leds)) (isByte (s .kept .ir)) (r .kept) in
+    let n = eqb-true (length (s .songs .table)) 16 (r .sixteen) in
+    record {
+      first-word = accepted.word-fits (m .first) (a .0);
+      second-word = accepted.word-fits (m .second) (b .0);
+      duties-array = accepted.array-is 3 (m .duties) (b .1);
+      leds-array = accepted.array-is 3 (s .kept .leds) (k .0);
+      infrared-byte = ltb-true (s .kept .ir) 256 (k .1);
+      sixteen-songs = n;
+      notes-array = λ i h. accepted.array-is 32 (songAt (s .songs) i .notes)
+          (is-true _ (all-at songTyped unset (s .songs .table) i (omega arith) (to-T (all songTyped (s .songs .table)) (r .songs))));
+      ids-array = accepted.array-is 16 (s .stream .ids) (r .stream);
+    }
+
+typed-so : (s : State) → Typed s → T (typed s)
+unfolding typed motorsTyped keptTyped songTyped songsTyped streamTyped
+typed-so s v =
+    let n = v .sixteen-songs in
+    let each : all songTyped (s .songs .table) ≡ true =
+    is-true _ (all-of songTyped unset (s .songs .table)
+    (λ i h. let a = v .notes-array i (omega arith) in to-T (songTyped (songAt (s .songs) i)) (array-true 32 (songAt (s .songs) i .notes) (a .0) (a .1)))) in
+    to-T (typed s)
+    (simp (
+      accepted.word-true (s .motors .first) (v .first-word),
+      accepted.word-true (s .motors .second) (v .second-word),
+      array-true 3 (s .motors .duties) (v .duties-array .0) (v .duties-array .1),
+      array-true 3 (s .kept .leds) (v .leds-array .0) (v .leds-array .1),
+      lt-ltb (s .kept .ir) 256 (v .infrared-byte),
+      eq-eqb (length (s .songs .table)) 16 n,
+      each,
+      array-true 16 (s .stream .ids) (v .ids-array .0) (v .ids-array .1),
+    ))
+
 plain-of : (s : State) → T (acceptedOf s) → Plain s
 plain-of s t =
     let i = item-of s t in
     let n = eqb-true (length (s .songs .table)) 16 (typed-accepted s t .sixteen) in
-    let c = accepted.both (leb (s .stream .count) 16) (streamableOf (take (s .stream .count) (s .stream .ids))) (sym (accepted.list-tested (s .stream)) ∙ i 8 tt) in
+    let c = both (leb (s .stream .count) 16) (streamableOf (take (s .stream .count) (s .stream .ids))) (sym (accepted.list-tested (s .stream)) ∙ i 8 tt) in
     record {
       mode-is = accepted.mode-is (s .mode) (i 0 tt);
       order-is = accepted.order-is (s .motors) (i 1 tt);
@@ -149,7 +191,7 @@ accepted-of s t p =
 
 pub accepted-exactly : AcceptedExactly
 unfolding acceptedOf
-accepted-exactly = record { tells = λ s t. (and-yes (typed s) (all (λ b. b) (items s)) t .0, plain-of s t); no-other = accepted-of }
+accepted-exactly = record { typed-tells = typed-tells; typed-so = typed-so; tells = λ s t. (and-yes (typed s) (all (λ b. b) (items s)) t .0, plain-of s t); no-other = accepted-of }
 
 -- ---- what keeps a record accepted
 

@@ -7,6 +7,8 @@ use Prim.Native.Nat.{ℕ, _*_, _≤_, _<_}
 use lib.Dec.{T, ltb}
 use lib.IntN.{ℤ}
 use lib.ListN.{length, getD, take}
+use mir.Syntax.{w16}
+use mir.Val.{SFits}
 use Rattle.wire.specs.Lists.{all}
 use Rattle.frame.specs.Push.{emptyPartial}
 use Rattle.frame.specs.Reach.{reachableOf}
@@ -142,8 +144,25 @@ pub record Plain (s : State) : Type 0 where
   pub ids-zero : (i : ℕ) → s .stream .count ≤ i → getD (s .stream .ids) i 0 ≡ 0
   pub partial-is : reachableOf (s .partial) ≡ true
 
+-- the list is a value of [u8; n]
+abbrev pub Array : ℕ → List ℕ → Type 0
+Array n l = (length l ≡ n) × ((i : ℕ) → getD l i 0 < 256)
+
+-- what the type alone says, where no item bounds it
+pub record Typed (s : State) : Type 0 where
+  pub first-word : SFits w16 (s .motors .first)
+  pub second-word : SFits w16 (s .motors .second)
+  pub duties-array : Array 3 (s .motors .duties)
+  pub leds-array : Array 3 (s .kept .leds)
+  pub infrared-byte : s .kept .ir < 256
+  pub sixteen-songs : length (s .songs .table) ≡ 16
+  pub notes-array : (n : ℕ) → n < 16 → Array 32 (songAt (s .songs) n .notes)
+  pub ids-array : Array 16 (s .stream .ids)
+
 -- THEOREM: of the values of the type those are accepted, and no others
 pub record AcceptedExactly : Type 0 where
+  pub typed-tells : (s : State) → T (typed s) → Typed s
+  pub typed-so : (s : State) → Typed s → T (typed s)
   pub tells : (s : State) → T (acceptedOf s) → T (typed s) × Plain s
   pub no-other : (s : State) → T (typed s) → Plain s → T (acceptedOf s)
 

@@ -7,6 +7,7 @@ use Prim.Native.Nat.{ℕ, zero, suc, _-_, _≤_, _<_, zero-le, suc-le-suc}
 use native.Mathlib.Nat.{eq-or-lt-of-le}
 use native.Mathlib.Omega.{arith}
 use lib.Dec.{T, leb, eqb, leb·zero, leb·suc-suc}
+use mir.Facts.{and-yes}
 use borrow.Author.Tests.{le-leb, lt-leb, leb-true, leb-false, eqb-true, eqb-false, eq-eqb, ne-eqb}
 
 pub is-true : (b : Bool) → T b → b ≡ true
@@ -22,6 +23,10 @@ beq-eq true true t = refl
 beq-eq true false t = absurd t
 beq-eq false true t = absurd t
 beq-eq false false t = refl
+
+-- a test of two that passes
+pub both : (a b : Bool) → (a && b) ≡ true → (a ≡ true) × (b ≡ true)
+both a b e = let s = and-yes a b (to-T (a && b) e) in (is-true a (s .0), is-true b (s .1))
 
 -- two tests that pass together
 pub same-truth : (a b : Bool) → (T a → T b) → (T b → T a) → a ≡ b

@@ -2,6 +2,7 @@
 -- Assumes nothing.
 use mathlib.Core.Path.{_≡_, sym, ap, _∙_}
 use mathlib.Core.Bool.{true, _&&_}
+use mathlib.Core.List.{[]}
 use mathlib.Core.Logic.{⊎-elim}
 use Prim.Native.Nat.{_<_, _≤_}
 use native.Mathlib.Omega.{arith}
@@ -10,7 +11,6 @@ use borrow.Author.Needs.{needs}
 use borrow.Author.Tests.{eq-eqb, not-true, not-false, leb-true}
 use Rattle.wire.specs.Lists.{all, isZero}
 use Rattle.wire.proofs.ListsLaws.{getD-any}
-use mathlib.Core.List.{[]}
 use Rattle.state.specs.State.{unset, songAt}
 use Rattle.state.specs.Accepted.{selectedLegal, playingSet, songOk, songsOk}
 use Rattle.state.specs.declared.Song.{Song}
