@@ -21,46 +21,43 @@ use Rattle.state.specs.State.{motorsOff, unset, songAt, powerOn}
 use Rattle.state.specs.Accepted.{modeNamed, orderNamed, offUnlessDriven, wheelsLegal, dutiesLegal, outputsLegal, baudLegal, selectedLegal, streamLegal, lengthLegal, playingSet, notesZero, idsZero, items, isWord, motorsTyped, keptTyped, songTyped, songsTyped, streamTyped, typed, acceptedOf}
 use Rattle.state.specs.Record.{Typed, Sets, SettersRight, PowerOnRight, StopRight, RecordsInNumbers, Plain, AcceptedExactly, AcceptedStays}
 use Rattle.state.specs.declared.State.{State}
-use Rattle.state.proofs.StateLaws.{off-order, off-duties, off-so, no-songs}
+use Rattle.state.proofs.StateLaws.{off-order, off-duties, off-so, set-so, no-songs}
 use Rattle.state.proofs.AcceptedLaws as accepted
-use Rattle.state.proofs.PartsLaws.{item-of, typed-of, typed-accepted}
+use Rattle.state.proofs.PartsLaws.{item-of, typed-of, typed-accepted, by-parts}
 use Rattle.state.proofs.KeepingLaws as keeping
 
 -- a setter whose laws compute
 abbrev sets : {A B : Type 0} {get : State → A} {rest : State → B} {put : A → State → State}
-    → ((x : A) (s : State) → get (put x s) ≡ x) → ((x : A) (s : State) → rest (put x s) ≡ rest s) → ((s : State) → put (get s) s ≡ s)
-    → ((x y : A) (s : State) → put y (put x s) ≡ put y s) → Sets get rest put
-sets a b c d = record { there = a; others = b; again = c; last = d }
+    → ((x : A) (s : State) → get (put x s) ≡ x) → ((x : A) (s : State) → rest (put x s) ≡ rest s) → Sets get rest put
+sets a b = record { there = a; others = b }
 
 pub setters-right : SettersRight
 setters-right =
     record {
-      set-mode = sets (λ x s. refl) (λ x s. refl) (λ s. refl) (λ x y s. refl);
-      set-motors = sets (λ x s. refl) (λ x s. refl) (λ s. refl) (λ x y s. refl);
-      set-kept = sets (λ x s. refl) (λ x s. refl) (λ s. refl) (λ x y s. refl);
-      set-songs = sets (λ x s. refl) (λ x s. refl) (λ s. refl) (λ x y s. refl);
-      set-stream = sets (λ x s. refl) (λ x s. refl) (λ s. refl) (λ x y s. refl);
-      set-partial = sets (λ x s. refl) (λ x s. refl) (λ s. refl) (λ x y s. refl);
-      set-wheels = sets (λ x s. refl) (λ x s. refl) (λ s. refl) (λ x y s. refl);
-      set-duties = sets (λ x s. refl) (λ x s. refl) (λ s. refl) (λ x y s. refl);
-      set-baud = sets (λ x s. refl) (λ x s. refl) (λ s. refl) (λ x y s. refl);
-      set-leds = sets (λ x s. refl) (λ x s. refl) (λ s. refl) (λ x y s. refl);
-      set-outputs = sets (λ x s. refl) (λ x s. refl) (λ s. refl) (λ x y s. refl);
-      set-infrared = sets (λ x s. refl) (λ x s. refl) (λ s. refl) (λ x y s. refl);
-      set-selected = sets (λ x s. refl) (λ x s. refl) (λ s. refl) (λ x y s. refl);
-      set-playing = sets (λ x s. refl) (λ x s. refl) (λ s. refl) (λ x y s. refl);
-      set-list = sets (λ x s. refl) (λ x s. refl) (λ s. refl) (λ x y s. refl);
-      set-streaming = sets (λ x s. refl) (λ x s. refl) (λ s. refl) (λ x y s. refl);
+      set-mode = sets (λ x s. refl) (λ x s. refl);
+      set-motors = sets (λ x s. refl) (λ x s. refl);
+      set-kept = sets (λ x s. refl) (λ x s. refl);
+      set-songs = sets (λ x s. refl) (λ x s. refl);
+      set-stream = sets (λ x s. refl) (λ x s. refl);
+      set-partial = sets (λ x s. refl) (λ x s. refl);
+      set-wheels = sets (λ x s. refl) (λ x s. refl);
+      set-duties = sets (λ x s. refl) (λ x s. refl);
+      set-baud = sets (λ x s. refl) (λ x s. refl);
+      set-leds = sets (λ x s. refl) (λ x s. refl);
+      set-outputs = sets (λ x s. refl) (λ x s. refl);
+      set-infrared = sets (λ x s. refl) (λ x s. refl);
+      set-selected = sets (λ x s. refl) (λ x s. refl);
+      set-playing = sets (λ x s. refl) (λ x s. refl);
+      set-list = sets (λ x s. refl) (λ x s. refl);
+      set-streaming = sets (λ x s. refl) (λ x s. refl);
       song-there = λ n x s h. getD-set-same (s .songs .table) n x unset h;
-      song-other = λ n k x s h. getD-set-other (s .songs .table) n k x unset h;
-      song-selected = λ n x s. refl;
-      song-playing = λ n x s. refl;
-      song-others = λ n x s. refl;
+      song-elsewhere = λ n k x s h. getD-set-other (s .songs .table) n k x unset h;
+      song-rest = λ n x s. refl;
     }
 
 pub records-in-numbers : RecordsInNumbers
 unfolding motorsOff powerOn modeNamed orderNamed offUnlessDriven wheelsLegal dutiesLegal outputsLegal baudLegal selectedLegal streamLegal lengthLegal playingSet notesZero idsZero motorsTyped keptTyped songTyped songsTyped streamTyped typed acceptedOf reachableOf dataLength bodySizeAs sizeOf groupOf listableOf streamableOf isIn isLegal rowOf legalOf
-records-in-numbers = record { records-right = tt; every-item = λ s. refl; no-item-without = tt; odd-accepted = tt }
+records-in-numbers = record { mode-codes = refl; order-codes = refl; records-right = tt; every-item = λ s. refl; no-item-without = tt; odd-accepted = tt }
 
 pub power-on-right : PowerOnRight
 unfolding motorsOff powerOn
@@ -68,6 +65,7 @@ power-on-right =
     record {
       mode-off = refl;
       motors-off = refl;
+      wheels-0 = refl;
       no-songs = no-songs;
       selected-0 = refl;
       not-playing = refl;
@@ -85,10 +83,11 @@ pub stop-right : StopRight
 unfolding motorsOff
 stop-right =
     record {
+      stop-wheels = λ s. refl;
+      stop-duties = λ s. refl;
       stop-off = λ s. refl;
       stop-others = λ s. refl;
       passive-mode = λ s. refl;
-      passive-off = λ s. refl;
       passive-others = λ s. refl;
       off-order = off-order;
       off-duties = off-duties;
@@ -191,7 +190,14 @@ accepted-of s t p =
 
 pub accepted-exactly : AcceptedExactly
 unfolding acceptedOf
-accepted-exactly = record { typed-tells = typed-tells; typed-so = typed-so; tells = λ s t. (and-yes (typed s) (all (λ b. b) (items s)) t .0, plain-of s t); no-other = accepted-of }
+accepted-exactly = record {
+  typed-tells = typed-tells;
+  typed-so = typed-so;
+  set-so = set-so;
+  by-parts = by-parts;
+  tells = λ s t. (and-yes (typed s) (all (λ b. b) (items s)) t .0, plain-of s t);
+  no-other = accepted-of;
+}
 
 -- ---- what keeps a record accepted
 

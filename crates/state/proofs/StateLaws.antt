@@ -1,19 +1,21 @@
 -- Laws of the record's definitions.
 -- Assumes nothing.
 use mathlib.Core.Path.{_≡_, refl, ap}
-use mathlib.Core.Bool.{true, false}
+use mathlib.Core.Bool.{true, false, not}
 use mathlib.Core.List.{[], _∷_}
 use Prim.Native.Nat.{ℕ, zero, suc}
-use lib.Dec.{T, eqb, eqb→eq}
+use native.Mathlib.Omega.{arith}
+use lib.Dec.{T, ltb, eqb, eqb→eq}
 use lib.ListN.{getD, replicate}
 use mir.Facts.{and-yes}
-use borrow.Author.Tests.{eq-eqb}
+use borrow.Author.Tests.{lt-ltb, eq-eqb}
 use Rattle.wire.specs.Lists.{allZero}
-use Rattle.wire.proofs.BoolLaws.{to-T}
+use Rattle.wire.proofs.BoolLaws.{to-T, pos-eqb}
 use Rattle.wire.proofs.ListsLaws.{zero-at}
 use Rattle.state.specs.State.{motorsOff, unset, songAt, powerOn}
 use Rattle.state.specs.Accepted.{isSet}
 use Rattle.state.specs.declared.Motors.{Motors}
+use Rattle.state.specs.declared.Song.{Song}
 
 -- ---- motorsOff
 
@@ -42,3 +44,10 @@ all-unset (suc k) (suc n) = all-unset k n
 pub no-songs : (n : ℕ) → isSet (songAt (powerOn .songs) n) ≡ false
 unfolding powerOn
 no-songs n = ap isSet (all-unset 16 n)
+
+pub set-so : (x : Song) → isSet x ≡ ltb 0 (x .len)
+set-so x = go (x .len)
+  where
+    go : (n : ℕ) → not (eqb n 0) ≡ ltb 0 n
+    go zero = refl
+    go (suc n) = simp (pos-eqb (suc n) (omega arith), lt-ltb 0 (suc n) (omega arith))

@@ -31,7 +31,7 @@ modeNamed mode = among (off ∷ passive ∷ safe ∷ full ∷ []) mode
 unfoldable pub orderNamed : Motors → Bool
 orderNamed m = among (noOrder ∷ drive ∷ direct ∷ []) (m .order)
 
--- 'Off or Passive with a motor not off'
+-- 'Off or Passive with a motor not off': off unless the mode is one to drive in, Safe or Full
 unfoldable pub offUnlessDriven : ℕ → Motors → Bool
 offUnlessDriven mode m = not (among (off ∷ passive ∷ []) mode) || motorsOff m
 
@@ -131,7 +131,7 @@ typed s = motorsTyped (s .motors) && (keptTyped (s .kept) && (songsTyped (s .son
 
 -- ---- accepted
 
--- every item holds
+-- a value of the type of which every item holds
 unfoldable pub acceptedOf : State → Bool
 acceptedOf s = typed s && all (λ item. item) (items s)
 

@@ -1,5 +1,5 @@
--- Records in numbers: each item of document 01's list, broken alone, beside a neighbour that is accepted. The records are written out, and cite no
--- range and no rule.
+-- Records in numbers: each item of document 01's list, broken alone, beside a neighbour that is accepted. One record is written out, and the others differ
+-- from it by the setters. The values that make a record bad or good are numbers, and cite no range and no rule.
 -- Assumes nothing.
 use mathlib.Core.Bool.{Bool, true, false, not, cond, _&&_}
 use mathlib.Core.List.{List, [], _∷_, _++_}
@@ -24,8 +24,8 @@ abbrev shortSong : Song
 shortSong = song 2 (60 ∷ 32 ∷ 64 ∷ 16 ∷ [])
 
 -- Full, in motion, a song playing, a list streamed, half a Drive read
-abbrev pub busy : State
-busy =
+abbrev pub moving : State
+moving =
     record {
       mode = 3;
       motors = record { order = 1; first = pos 200; second = pos 500; duties = 128 ∷ 0 ∷ 64 ∷ [] };
@@ -35,9 +35,9 @@ busy =
       partial = stored (137 ∷ 0 ∷ []) 3;
     }
 
--- the same in Passive and in Off, with the motors off
-abbrev idle : ℕ → State
-idle mode = withMode mode (withDuties (0 ∷ 0 ∷ 0 ∷ []) (withWheels 0 (pos 0) (pos 0) busy))
+-- the same in a mode in which the motors must be off, and with the motors off
+abbrev still : ℕ → State
+still mode = withMode mode (withDuties (0 ∷ 0 ∷ 0 ∷ []) (withWheels 0 (pos 0) (pos 0) moving))
 
 -- ---- cases
 
@@ -49,23 +49,23 @@ pub record Case : Type 0 where
 abbrev case : State → State → Case
 case a b = record { bad = a; mended = b }
 
--- with one value that is just outside and one that is just inside
+-- with a value that makes it bad, and with one that does not: at the end of a range the number outside and the one inside
 abbrev ends {ℓ} : {A : Type ℓ} → (A → State) → A → A → Case
 ends set out within = case (set out) (set within)
 
 abbrev driving : ℤ → ℤ → State
-driving velocity radius = withWheels 1 velocity radius busy
+driving velocity radius = withWheels 1 velocity radius moving
 
-abbrev direct : ℤ → ℤ → State
-direct right left = withWheels 2 right left busy
+abbrev directing : ℤ → ℤ → State
+directing right left = withWheels 2 right left moving
 
--- no more than this set, and not playing
+-- this song selected, and none playing
 abbrev selecting : ℕ → State
-selecting n = withSelected n (withPlaying false busy)
+selecting n = withSelected n (withPlaying false moving)
 
 -- these ids, each in use
 abbrev listing : List ℕ → State
-listing ids = withList (length ids) (padded 16 ids) busy
+listing ids = withList (length ids) (padded 16 ids) moving
 
 -- the ids' sizes and number make 255, and 256
 abbrev makes255 : List ℕ
@@ -79,28 +79,28 @@ abbrev marked : ℕ → Song → Song
 marked k x = record { len = x .len; notes = set (x .notes) k 9 }
 
 abbrev holding : List ℕ → ℕ → State
-holding bytes remaining = withPartial (stored bytes remaining) busy
+holding bytes remaining = withPartial (stored bytes remaining) moving
 
 -- a half-read 137 0 in which the place k is 9
 abbrev holdingAt : ℕ → State
-holdingAt k = withPartial (record { bytes = set (padded 35 (137 ∷ 0 ∷ [])) k 9; count = 2; remaining = 3 }) busy
+holdingAt k = withPartial (record { bytes = set (padded 35 (137 ∷ 0 ∷ [])) k 9; count = 2; remaining = 3 }) moving
 
 -- for each item in its order, the records that it alone makes bad
 abbrev pub recordCases : List (List Case)
 recordCases =
     -- a mode
-    (ends (λ m. withMode m busy) 4 3 ∷ ends (λ m. withMode m busy) 255 2 ∷ [])
+    (ends (λ m. withMode m moving) 4 3 ∷ ends (λ m. withMode m moving) 255 2 ∷ [])
     -- a kind of wheel order
-    ∷ (ends (λ k. withWheels k (pos 200) (pos 500) busy) 3 2 ∷ [])
+    ∷ (ends (λ k. withWheels k (pos 200) (pos 500) moving) 3 2 ∷ [])
     -- Off or Passive with a motor not off: a Drive of velocity 0 is not off, and the numbers of no order may be anything
-    ∷ (ends (λ m. withMode m busy) 1 2
-    ∷ ends (λ k. withWheels k (pos 0) (pos 500) (idle 1)) 1 0
-    ∷ ends (λ k. withWheels k (pos 0) (pos 0) (idle 1)) 2 0
-    ∷ ends (λ k. withWheels k (pos 0) (minus 500) (idle 0)) 2 0
-    ∷ ends (λ d. withDuties (d ∷ 0 ∷ 0 ∷ []) (idle 1)) 1 0
-    ∷ ends (λ d. withDuties (0 ∷ d ∷ 0 ∷ []) (idle 1)) 1 0
-    ∷ ends (λ d. withDuties (0 ∷ 0 ∷ d ∷ []) (idle 1)) 1 0
-    ∷ ends (λ d. withDuties (0 ∷ 0 ∷ d ∷ []) (idle 0)) 128 0
+    ∷ (ends (λ m. withMode m moving) 1 2
+    ∷ ends (λ k. withWheels k (pos 0) (pos 500) (still 1)) 1 0
+    ∷ ends (λ k. withWheels k (pos 0) (pos 0) (still 1)) 2 0
+    ∷ ends (λ k. withWheels k (pos 0) (minus 500) (still 0)) 2 0
+    ∷ ends (λ d. withDuties (d ∷ 0 ∷ 0 ∷ []) (still 1)) 1 0
+    ∷ ends (λ d. withDuties (0 ∷ d ∷ 0 ∷ []) (still 1)) 1 0
+    ∷ ends (λ d. withDuties (0 ∷ 0 ∷ d ∷ []) (still 1)) 1 0
+    ∷ ends (λ d. withDuties (0 ∷ 0 ∷ d ∷ []) (still 0)) 128 0
     ∷ [])
     -- a wheel order: velocity, radius; right, left
     ∷ (ends (λ v. driving v (pos 500)) (pos 501) (pos 500)
@@ -111,43 +111,43 @@ recordCases =
     ∷ ends (driving (pos 200)) (pos 0) (minus 1)
     ∷ ends (driving (pos 200)) (pos 32766) (pos 32767)
     ∷ ends (driving (pos 200)) (minus 32767) (minus 32768)
-    ∷ ends (λ v. direct v (pos 0)) (pos 501) (pos 500)
-    ∷ ends (λ v. direct v (pos 0)) (minus 501) (minus 500)
-    ∷ ends (direct (minus 500)) (pos 501) (pos 500)
-    ∷ ends (direct (minus 500)) (minus 501) (minus 500)
+    ∷ ends (λ v. directing v (pos 0)) (pos 501) (pos 500)
+    ∷ ends (λ v. directing v (pos 0)) (minus 501) (minus 500)
+    ∷ ends (directing (minus 500)) (pos 501) (pos 500)
+    ∷ ends (directing (minus 500)) (minus 501) (minus 500)
     ∷ [])
     -- duties
-    ∷ (ends (λ d. withDuties (d ∷ 0 ∷ 64 ∷ []) busy) 129 128
-    ∷ ends (λ d. withDuties (128 ∷ d ∷ 64 ∷ []) busy) 129 128
-    ∷ ends (λ d. withDuties (128 ∷ 0 ∷ d ∷ []) busy) 129 128
+    ∷ (ends (λ d. withDuties (d ∷ 0 ∷ 64 ∷ []) moving) 129 128
+    ∷ ends (λ d. withDuties (128 ∷ d ∷ 64 ∷ []) moving) 129 128
+    ∷ ends (λ d. withDuties (128 ∷ 0 ∷ d ∷ []) moving) 129 128
     ∷ [])
     -- outputs
-    ∷ (ends (λ n. withOutputs n busy) 8 7 ∷ [])
+    ∷ (ends (λ n. withOutputs n moving) 8 7 ∷ [])
     -- baud code
-    ∷ (ends (λ n. withBaud n busy) 12 11 ∷ [])
+    ∷ (ends (λ n. withBaud n moving) 12 11 ∷ [])
     -- selected song
     ∷ (ends selecting 16 15 ∷ [])
     -- stream list: its length, its ids, its rule on sizes
-    ∷ (ends (λ n. withList n (replicate 16 7) busy) 17 16
+    ∷ (ends (λ n. withList n (replicate 16 7) moving) 17 16
     ∷ ends (λ id. listing (7 ∷ id ∷ [])) 43 42
     ∷ ends listing makes256 makes255
     ∷ ends listing (replicate 5 6) (replicate 4 6)
     ∷ [])
     -- song lengths
-    ∷ (ends (λ n. withSong 0 (song n (span 1 32)) busy) 17 16 ∷ ends (λ n. withSong 15 (song n (span 1 32)) busy) 17 16 ∷ [])
+    ∷ (ends (λ n. withSong 0 (song n (span 1 32)) moving) 17 16 ∷ ends (λ n. withSong 15 (song n (span 1 32)) moving) 17 16 ∷ [])
     -- playing with the selected song not set
-    ∷ (case (withSelected 1 busy) (selecting 1) ∷ ends (λ n. withSelected n busy) 14 15 ∷ case (withSong 0 unset busy) (withSong 0 (song 1 []) busy) ∷ [])
+    ∷ (case (withSelected 1 moving) (selecting 1) ∷ ends (λ n. withSelected n moving) 14 15 ∷ case (withSong 0 unset moving) (withSong 0 (song 1 []) moving) ∷ [])
     -- a place not in use in a song
-    ∷ (ends (λ x. withSong 0 x busy) (marked 4 shortSong) (marked 3 shortSong)
-    ∷ ends (λ n. withSong 0 (song n (1 ∷ 2 ∷ 3 ∷ 4 ∷ 5 ∷ [])) busy) 2 3
-    ∷ ends (λ x. withSong 0 x busy) (marked 31 shortSong) shortSong
-    ∷ ends (λ x. withSong 1 x busy) (marked 0 unset) unset
-    ∷ ends (λ x. withSong 15 x busy) (marked 31 unset) unset
+    ∷ (ends (λ x. withSong 0 x moving) (marked 4 shortSong) (marked 3 shortSong)
+    ∷ ends (λ n. withSong 0 (song n (1 ∷ 2 ∷ 3 ∷ 4 ∷ 5 ∷ [])) moving) 2 3
+    ∷ ends (λ x. withSong 0 x moving) (marked 31 shortSong) shortSong
+    ∷ ends (λ x. withSong 1 x moving) (marked 0 unset) unset
+    ∷ ends (λ x. withSong 15 x moving) (marked 31 unset) unset
     ∷ [])
     -- in the list
-    ∷ (ends (λ n. withList n (padded 16 (29 ∷ 13 ∷ [])) busy) 1 2
-    ∷ ends (λ n. withList n (padded 16 (29 ∷ [])) busy) 0 1
-    ∷ ends (λ id. withList 2 (set (padded 16 (29 ∷ 13 ∷ [])) 15 id) busy) 1 0
+    ∷ (ends (λ n. withList n (padded 16 (29 ∷ 13 ∷ [])) moving) 1 2
+    ∷ ends (λ n. withList n (padded 16 (29 ∷ [])) moving) 0 1
+    ∷ ends (λ id. withList 2 (set (padded 16 (29 ∷ 13 ∷ [])) 15 id) moving) 1 0
     ∷ [])
     -- a held frame that the frame table can't leave: an unused place; a number remaining; a frame that is complete, or past its count stored
     ∷ (ends holdingAt 2 1
@@ -186,10 +186,10 @@ casesRight k (cs ∷ css) = all (caseRight k) cs && casesRight (suc k) css
 abbrev pub oddRecords : List State
 oddRecords =
     powerOn
-    ∷ busy
+    ∷ moving
     -- in Off and in Passive: a song that plays, songs, a list streamed, LEDs, outputs, half a frame
-    ∷ idle 0
-    ∷ idle 1
+    ∷ still 0
+    ∷ still 1
     -- a selected song that is not set, while none plays
     ∷ selecting 1
     -- streaming an empty list

@@ -5,7 +5,7 @@ use mathlib.Core.Bool.{Bool, true, false, _&&_}
 use mathlib.Core.List.{List, [], _∷_}
 use Prim.Native.Nat.{ℕ, _*_, _≤_, _<_}
 use lib.Dec.{T, ltb}
-use lib.IntN.{ℤ}
+use lib.IntN.{ℤ, pos}
 use lib.ListN.{length, getD, take}
 use mir.Syntax.{w16}
 use mir.Val.{SFits}
@@ -17,7 +17,7 @@ use Rattle.packet.specs.Answers.{streamableOf}
 use Rattle.command.specs.CommandTable.{legalOf}
 use Rattle.command.specs.Commands.{message, isSpeed, isRadius, Sendable}
 use Rattle.command.specs.declared.Command.the-variants as cmd
-use Rattle.state.specs.State.{drive, direct, motorsOff, songAt, powerOn, withMode, withMotors, withKept, withSongs, withStream, withPartial, withWheels, withDuties, withBaud, withLeds, withOutputs, withInfrared, withSong, withSelected, withPlaying, withList, withStreaming, stop, toPassive}
+use Rattle.state.specs.State.{off, passive, safe, full, noOrder, drive, direct, motorsOff, unset, songAt, powerOn, withMode, withMotors, withKept, withSongs, withStream, withPartial, withWheels, withDuties, withBaud, withLeds, withOutputs, withInfrared, withSong, withSelected, withPlaying, withList, withStreaming, stop, toPassive}
 use Rattle.state.specs.Accepted.{isSet, items, typed, acceptedOf, motorsOk, keptOk, songsOk, streamOk}
 use Rattle.state.specs.Cases.{recordCases, casesRight, oddRecords}
 use Rattle.state.specs.declared.Motors.{Motors}
@@ -28,6 +28,13 @@ use Rattle.state.specs.declared.Stream.{Stream}
 use Rattle.state.specs.declared.State.{State}
 
 -- ---- the setters
+
+abbrev pub pair : {A B : Type 0} → A → B → A × B
+pair a b = (a, b)
+
+-- a wheel order: its kind and its two numbers
+abbrev pub wheelsOf : Motors → ℕ × (ℤ × ℤ)
+wheelsOf m = (m .order, (m .first, m .second))
 
 -- all of a record but one part
 abbrev pub butMode : State → Motors × (Kept × (Songs × (Stream × Partial)))
@@ -48,14 +55,10 @@ butStream s = (s .mode, (s .motors, (s .kept, (s .songs, s .partial))))
 abbrev pub butPartial : State → ℕ × (Motors × (Kept × (Songs × Stream)))
 butPartial s = (s .mode, (s .motors, (s .kept, (s .songs, s .stream))))
 
--- a setter of what `get` reads, which keeps what `rest` reads
+-- what is set is there, and all else is kept: `get` and `rest` together read the whole record
 pub record Sets {A B : Type 0} (get : State → A) (rest : State → B) (put : A → State → State) : Type 0 where
-  -- what is set is there, and the other parts are kept
   pub there : (x : A) (s : State) → get (put x s) ≡ x
   pub others : (x : A) (s : State) → rest (put x s) ≡ rest s
-  -- to set what was there changes nothing, and what is set last counts: so nothing else of the part is changed either
-  pub again : (s : State) → put (get s) s ≡ s
-  pub last : (x y : A) (s : State) → put y (put x s) ≡ put y s
 
 -- THEOREM: the setters
 pub record SettersRight : Type 0 where
@@ -65,24 +68,23 @@ pub record SettersRight : Type 0 where
   pub set-songs : Sets (λ s. s .songs) butSongs withSongs
   pub set-stream : Sets (λ s. s .stream) butStream withStream
   pub set-partial : Sets (λ s. s .partial) butPartial withPartial
-  -- within a part
-  pub set-wheels : Sets {A = ℕ × (ℤ × ℤ)} (λ s. (s .motors .order, (s .motors .first, s .motors .second))) butMotors
-      (λ x. withWheels (x .0) (x .1 .0) (x .1 .1))
-  pub set-duties : Sets (λ s. s .motors .duties) butMotors withDuties
-  pub set-baud : Sets (λ s. s .kept .baud) butKept withBaud
-  pub set-leds : Sets (λ s. s .kept .leds) butKept withLeds
-  pub set-outputs : Sets (λ s. s .kept .outputs) butKept withOutputs
-  pub set-infrared : Sets (λ s. s .kept .ir) butKept withInfrared
-  pub set-selected : Sets (λ s. s .songs .selected) butSongs withSelected
-  pub set-playing : Sets (λ s. s .songs .playing) butSongs withPlaying
-  pub set-list : Sets {A = ℕ × List ℕ} (λ s. (s .stream .count, s .stream .ids)) butStream (λ x. withList (x .0) (x .1))
-  pub set-streaming : Sets (λ s. s .stream .on) butStream withStreaming
+  -- within a part: the part's other fields are kept too
+  pub set-wheels : Sets (λ s. wheelsOf (s .motors)) (λ s. pair (butMotors s) (s .motors .duties)) (λ x. withWheels (x .0) (x .1 .0) (x .1 .1))
+  pub set-duties : Sets (λ s. s .motors .duties) (λ s. pair (butMotors s) (wheelsOf (s .motors))) withDuties
+  pub set-baud : Sets (λ s. s .kept .baud) (λ s. pair (butKept s) (pair (s .kept .leds) (pair (s .kept .outputs) (s .kept .ir)))) withBaud
+  pub set-leds : Sets (λ s. s .kept .leds) (λ s. pair (butKept s) (pair (s .kept .baud) (pair (s .kept .outputs) (s .kept .ir)))) withLeds
+  pub set-outputs : Sets (λ s. s .kept .outputs) (λ s. pair (butKept s) (pair (s .kept .baud) (pair (s .kept .leds) (s .kept .ir)))) withOutputs
+  pub set-infrared : Sets (λ s. s .kept .ir) (λ s. pair (butKept s) (pair (s .kept .baud) (pair (s .kept .leds) (s .kept .outputs)))) withInfrared
+  pub set-selected : Sets (λ s. s .songs .selected) (λ s. pair (butSongs s) (pair (s .songs .table) (s .songs .playing))) withSelected
+  pub set-playing : Sets (λ s. s .songs .playing) (λ s. pair (butSongs s) (pair (s .songs .table) (s .songs .selected))) withPlaying
+  pub set-list : Sets (λ s. pair (s .stream .count) (s .stream .ids)) (λ s. pair (butStream s) (s .stream .on)) (λ x. withList (x .0) (x .1))
+  pub set-streaming : Sets (λ s. s .stream .on) (λ s. pair (butStream s) (pair (s .stream .count) (s .stream .ids))) withStreaming
   -- one of the 16 songs, and not the others
   pub song-there : (n : ℕ) (x : Song) (s : State) → n < length (s .songs .table) → songAt (withSong n x s .songs) n ≡ x
-  pub song-other : (n k : ℕ) (x : Song) (s : State) → (k ≡ n → ⊥) → songAt (withSong n x s .songs) k ≡ songAt (s .songs) k
-  pub song-selected : (n : ℕ) (x : Song) (s : State) → withSong n x s .songs .selected ≡ s .songs .selected
-  pub song-playing : (n : ℕ) (x : Song) (s : State) → withSong n x s .songs .playing ≡ s .songs .playing
-  pub song-others : (n : ℕ) (x : Song) (s : State) → butSongs (withSong n x s) ≡ butSongs s
+  pub song-elsewhere : (n k : ℕ) (x : Song) (s : State) → (k ≡ n → ⊥) → songAt (withSong n x s .songs) k ≡ songAt (s .songs) k
+  pub song-rest : (n : ℕ) (x : Song) (s : State)
+      → pair (butSongs (withSong n x s)) (pair (withSong n x s .songs .selected) (withSong n x s .songs .playing))
+      ≡ pair (butSongs s) (pair (s .songs .selected) (s .songs .playing))
 
 -- ---- power-on and stop
 
@@ -90,6 +92,7 @@ pub record SettersRight : Type 0 where
 pub record PowerOnRight : Type 0 where
   pub mode-off : powerOn .mode ≡ 0
   pub motors-off : motorsOff (powerOn .motors) ≡ true
+  pub wheels-0 : wheelsOf (powerOn .motors) ≡ (0, (pos 0, pos 0))
   pub no-songs : (n : ℕ) → isSet (songAt (powerOn .songs) n) ≡ false
   pub selected-0 : powerOn .songs .selected ≡ 0
   pub not-playing : powerOn .songs .playing ≡ false
@@ -104,12 +107,13 @@ pub record PowerOnRight : Type 0 where
 
 -- THEOREM: stop, and motors off
 pub record StopRight : Type 0 where
+  pub stop-wheels : (s : State) → wheelsOf (stop s .motors) ≡ (0, (pos 0, pos 0))
+  pub stop-duties : (s : State) → stop s .motors .duties ≡ 0 ∷ 0 ∷ 0 ∷ []
   pub stop-off : (s : State) → motorsOff (stop s .motors) ≡ true
   pub stop-others : (s : State) → butMotors (stop s) ≡ butMotors s
-  -- Passive with a stop: with its mode and its motors back the record is the old one
+  -- Passive with a stop, and nothing else
   pub passive-mode : (s : State) → toPassive s .mode ≡ 1
-  pub passive-off : (s : State) → motorsOff (toPassive s .motors) ≡ true
-  pub passive-others : (s : State) → withMode (s .mode) (withMotors (s .motors) (toPassive s)) ≡ s
+  pub passive-others : (s : State) → butMode (toPassive s) ≡ butMode (stop s)
   -- motors are off only so
   pub off-order : (m : Motors) → motorsOff m ≡ true → m .order ≡ 0
   pub off-duties : (m : Motors) → motorsOff m ≡ true → (i : ℕ) → getD (m .duties) i 0 ≡ 0
@@ -119,13 +123,16 @@ pub record StopRight : Type 0 where
 
 -- THEOREM: records in numbers
 pub record RecordsInNumbers : Type 0 where
+  -- modes are coded as packet 35 sends them
+  pub mode-codes : off ∷ passive ∷ safe ∷ full ∷ [] ≡ 0 ∷ 1 ∷ 2 ∷ 3 ∷ []
+  pub order-codes : noOrder ∷ drive ∷ direct ∷ [] ≡ 0 ∷ 1 ∷ 2 ∷ []
   pub records-right : T (casesRight 0 recordCases)
   -- there are cases for every item
   pub every-item : (s : State) → length recordCases ≡ length (items s)
   pub no-item-without : T (all (λ cs. ltb 0 (length cs)) recordCases)
   pub odd-accepted : T (all acceptedOf oddRecords)
 
--- document 01's list in plain numbers
+-- document 01's list, in plain numbers where it has any
 pub record Plain (s : State) : Type 0 where
   pub mode-is : s .mode ≤ 3
   pub order-is : s .motors .order ≤ 2
@@ -138,9 +145,9 @@ pub record Plain (s : State) : Type 0 where
   pub selected-is : s .songs .selected ≤ 15
   pub count-is : s .stream .count ≤ 16
   pub list-is : streamableOf (take (s .stream .count) (s .stream .ids)) ≡ true
-  pub lengths-are : (n : ℕ) → n < 16 → songAt (s .songs) n .len ≤ 16
-  pub playing-set : s .songs .playing ≡ true → 0 < songAt (s .songs) (s .songs .selected) .len
-  pub notes-zero : (n i : ℕ) → n < 16 → 2 * songAt (s .songs) n .len ≤ i → getD (songAt (s .songs) n .notes) i 0 ≡ 0
+  pub lengths-are : (n : ℕ) → n < 16 → getD (s .songs .table) n unset .len ≤ 16
+  pub playing-set : s .songs .playing ≡ true → 0 < getD (s .songs .table) (s .songs .selected) unset .len
+  pub notes-zero : (n i : ℕ) → n < 16 → 2 * getD (s .songs .table) n unset .len ≤ i → getD (getD (s .songs .table) n unset .notes) i 0 ≡ 0
   pub ids-zero : (i : ℕ) → s .stream .count ≤ i → getD (s .stream .ids) i 0 ≡ 0
   pub partial-is : reachableOf (s .partial) ≡ true
 
@@ -156,15 +163,19 @@ pub record Typed (s : State) : Type 0 where
   pub leds-array : Array 3 (s .kept .leds)
   pub infrared-byte : s .kept .ir < 256
   pub sixteen-songs : length (s .songs .table) ≡ 16
-  pub notes-array : (n : ℕ) → n < 16 → Array 32 (songAt (s .songs) n .notes)
+  pub notes-array : (n : ℕ) → n < 16 → Array 32 (getD (s .songs .table) n unset .notes)
   pub ids-array : Array 16 (s .stream .ids)
 
 -- THEOREM: of the values of the type those are accepted, and no others
 pub record AcceptedExactly : Type 0 where
   pub typed-tells : (s : State) → T (typed s) → Typed s
   pub typed-so : (s : State) → Typed s → T (typed s)
+  pub set-so : (x : Song) → isSet x ≡ ltb 0 (x .len)
   pub tells : (s : State) → T (acceptedOf s) → T (typed s) × Plain s
   pub no-other : (s : State) → T (typed s) → Plain s → T (acceptedOf s)
+  -- the tests of the parts, which the code asks
+  pub by-parts : (s : State) → acceptedOf s
+      ≡ (motorsOk (s .mode) (s .motors) && (keptOk (s .kept) && (songsOk (s .songs) && (streamOk (s .stream) && reachableOf (s .partial)))))
 
 -- ---- what keeps a record accepted
 
