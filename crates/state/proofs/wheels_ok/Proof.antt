@@ -1,12 +1,16 @@
 -- `state::wheels_ok` meets its contract: each arm knows the kind.
 -- Assumes nothing.
-use mathlib.Core.Path.{_∙_}
+use mathlib.Core.Path.{_≡_, _∙_}
+use mathlib.Core.Bool.{Bool}
+use lib.IntN.{ℤ}
 use mir.Syntax.{w16}
-use mir.Val.{SFits}
+use mir.Val.{SFits, toZ, ofZ}
 use mir.ValLaws.{toZ-ofZ}
 use borrow.Author.Needs.{needs}
 use borrow.Author.Tests.{ne-eqb}
-use Rattle.state.specs.Accepted.{orderNamed, wheelsLegal}
+use Rattle.command.specs.declared.Command.the-variants as cmd
+use Rattle.state.specs.Accepted.{orderNamed, legalNumbers, wheelsLegal}
+use Rattle.state.specs.declared.Motors.{Motors}
 use Rattle.state.proofs.wheels_ok.Statement.{statement}
 use Rattle.state.proofs.wheels_ok.Tie as tie
 
@@ -14,23 +18,26 @@ returns : tie.Need-returns
 unfolding orderNamed wheelsLegal
 returns c = simp (c .match .keys1)
 
+-- numbers of which the machine holds the bits
+as-read : (f : ℤ → ℤ → Bool) (m : Motors) {x : Bool} → SFits w16 (m .first) → SFits w16 (m .second)
+    → x ≡ f (toZ w16 (ofZ w16 (m .first))) (toZ w16 (ofZ w16 (m .second))) → x ≡ f (m .first) (m .second)
+as-read f m a b e = rw (toZ-ofZ w16 _ a, toZ-ofZ w16 _ b) at e
+
 returns-2 : tie.Need-returns-2
 unfolding orderNamed wheelsLegal
 returns-2 c =
     let told = c .before .struct-told .given in
-    let m = c .before .before .before .args .motors in
-    let first : SFits w16 (m .first) = record { sfits = told .1 .0 .1 } in
-    let second : SFits w16 (m .second) = record { sfits = told .1 .1 .0 .1 } in
-    (rw (toZ-ofZ w16 _ first, toZ-ofZ w16 _ second) at (c .is-legal .ensures)) ∙ simp (c .before .before .match .keys2)
+    as-read (λ v w. legalNumbers (cmd.Drive v w)) (c .before .before .before .args .motors) (record { sfits = told .1 .0 .1 })
+    (record { sfits = told .1 .1 .0 .1 }) (c .is-legal .ensures)
+    ∙ simp (c .before .before .match .keys2)
 
 returns-3 : tie.Need-returns-3
 unfolding orderNamed wheelsLegal
 returns-3 c =
     let told = c .before .struct-told2 .given in
-    let m = c .before .before .before .args .motors in
-    let first : SFits w16 (m .first) = record { sfits = told .1 .0 .1 } in
-    let second : SFits w16 (m .second) = record { sfits = told .1 .1 .0 .1 } in
-    (rw (toZ-ofZ w16 _ first, toZ-ofZ w16 _ second) at (c .is-legal2 .ensures)) ∙ simp (c .before .before .match .keys3)
+    as-read (λ v w. legalNumbers (cmd.Direct v w)) (c .before .before .before .args .motors) (record { sfits = told .1 .0 .1 })
+    (record { sfits = told .1 .1 .0 .1 }) (c .is-legal2 .ensures)
+    ∙ simp (c .before .before .match .keys3)
 
 returns-4 : tie.Need-returns-4
 unfolding orderNamed wheelsLegal
