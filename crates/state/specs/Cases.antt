@@ -149,9 +149,10 @@ recordCases =
     ∷ ends (λ n. withList n (padded 16 (29 ∷ [])) moving) 0 1
     ∷ ends (λ id. withList 2 (set (padded 16 (29 ∷ 13 ∷ [])) 15 id) moving) 1 0
     ∷ [])
-    -- a held frame that the frame table can't leave: an unused place; a number remaining; a frame that is complete, or past its count stored
+    -- a held frame that the frame table can't leave: an unused place; a number of bytes, and of those remaining; a frame that is complete, or stored past its count
     ∷ (ends holdingAt 2 1
     ∷ ends holdingAt 34 1
+    ∷ ends (λ n. withPartial (record { bytes = padded 35 (137 ∷ 0 ∷ []); count = n; remaining = 3 }) moving) 36 2
     ∷ ends (holding (137 ∷ 0 ∷ [])) 4 3
     ∷ ends (holding (137 ∷ 0 ∷ [])) 2 3
     ∷ ends (holding []) 1 0
@@ -161,6 +162,7 @@ recordCases =
     ∷ ends (λ n. holding (148 ∷ n ∷ []) n) 0 1
     ∷ case (holding (128 ∷ []) 0) (holding [] 0)
     ∷ case (holding (146 ∷ []) 0) (holding [] 0)
+    ∷ case (holding (140 ∷ 0 ∷ 16 ∷ span 1 32) 0) (holding (140 ∷ 0 ∷ 16 ∷ span 1 31) 1)
     ∷ case (holding (152 ∷ 5 ∷ 1 ∷ []) 4) (holding (152 ∷ 5 ∷ []) 4)
     ∷ case (holding (149 ∷ 17 ∷ 7 ∷ []) 16) (holding (149 ∷ 17 ∷ []) 16)
     ∷ [])
