@@ -9,6 +9,7 @@ use lib.ListN.{length, set, replicate}
 use Rattle.wire.specs.Lists.{all, span, padded, sameList}
 use Rattle.wire.specs.Sixteen.{minus}
 use Rattle.frame.specs.Push.{stored}
+use Rattle.packet.specs.Cases.{longestStream}
 use Rattle.state.specs.State.{unset, powerOn, withMode, withPartial, withWheels, withDuties, withBaud, withLeds, withOutputs, withInfrared, withSong, withSelected, withPlaying, withList, withStreaming}
 use Rattle.state.specs.Accepted.{items, typed, acceptedOf}
 use Rattle.state.specs.declared.Song.{Song}
@@ -67,10 +68,7 @@ selecting n = withSelected n (withPlaying false moving)
 abbrev listing : List ℕ → State
 listing ids = withList (length ids) (padded 16 ids) moving
 
--- the ids' sizes and number make 255, and 256
-abbrev makes255 : List ℕ
-makes255 = 6 ∷ 6 ∷ 6 ∷ 6 ∷ 0 ∷ 1 ∷ 7 ∷ 19 ∷ []
-
+-- the ids' sizes and number make 256; those of the longest list, 255
 abbrev makes256 : List ℕ
 makes256 = 6 ∷ 6 ∷ 6 ∷ 6 ∷ 0 ∷ 1 ∷ 19 ∷ 19 ∷ []
 
@@ -130,7 +128,7 @@ recordCases =
     -- stream list: its length, its ids, its rule on sizes
     ∷ (ends (λ n. withList n (replicate 16 7) moving) 17 16
     ∷ ends (λ id. listing (7 ∷ id ∷ [])) 43 42
-    ∷ ends listing makes256 makes255
+    ∷ ends listing makes256 longestStream
     ∷ ends listing (replicate 5 6) (replicate 4 6)
     ∷ [])
     -- song lengths
