@@ -11,7 +11,7 @@ use Rattle.wire.specs.Lists.{all}
 use Rattle.wire.proofs.BoolLaws.{is-true, to-T, both, same-truth}
 use Rattle.wire.proofs.ListsLaws.{all-at, all-and}
 use Rattle.frame.specs.Reach.{reachableOf}
-use Rattle.state.specs.Accepted.{modeNamed, orderNamed, offUnlessDriven, wheelsLegal, dutiesLegal, outputsLegal, baudLegal, selectedLegal, streamLegal, lengthLegal, playingSet, notesZero, idsZero, items, motorsTyped, keptTyped, songTyped, songsTyped, streamTyped, typed, acceptedOf, motorsOk, keptOk, songOk, songsOk, streamOk}
+use Rattle.state.specs.Accepted.{modeNamed, orderNamed, offUnlessDriven, wheelsLegal, dutiesLegal, outputsLegal, baudLegal, selectedLegal, streamLegal, lengthLegal, playingSet, notesZero, idsZero, items, motorsTyped, keptTyped, songTyped, songsTyped, streamTyped, typed, acceptedOf, motorsOk, keptOk, songOk, songsOk, streamOk, partsOk}
 use Rattle.state.specs.declared.Motors.{Motors}
 use Rattle.state.specs.declared.Kept.{Kept}
 use Rattle.state.specs.declared.Song.{Song}
@@ -193,20 +193,17 @@ module _ (s : State) where
       ))
 
   -- as the code tests it
-  abbrev pub tested : Bool
-  tested = motorsOk (s .mode) (s .motors) && (keptOk (s .kept) && (songsOk (s .songs) && (streamOk (s .stream) && reachableOf (s .partial))))
-
-  tested-parts : tested ≡ true → Parts s
-  tested-parts e =
+  ok-parts : partsOk s ≡ true → Parts s
+  ok-parts e =
       let a = both (motorsOk (s .mode) (s .motors)) (keptOk (s .kept) && (songsOk (s .songs) && (streamOk (s .stream) && reachableOf (s .partial)))) e in
       let b = both (keptOk (s .kept)) (songsOk (s .songs) && (streamOk (s .stream) && reachableOf (s .partial))) (a .1) in
       let c = both (songsOk (s .songs)) (streamOk (s .stream) && reachableOf (s .partial)) (b .1) in
       let d = both (streamOk (s .stream)) (reachableOf (s .partial)) (c .1) in
       record { motors = a .0; kept = b .0; songs = c .0; stream = d .0; partial = d .1 }
 
-  parts-tested : Parts s → tested ≡ true
-  parts-tested p = simp (p .motors, p .kept, p .songs, p .stream, p .partial)
+  parts-ok : Parts s → partsOk s ≡ true
+  parts-ok p = simp (p .motors, p .kept, p .songs, p .stream, p .partial)
 
-  pub by-parts : acceptedOf s ≡ tested
+  pub by-parts : acceptedOf s ≡ partsOk s
   by-parts =
-      same-truth (acceptedOf s) tested (λ t. to-T tested (parts-tested (parts-of t))) (λ t. of-parts (tested-parts (is-true tested t)))
+      same-truth (acceptedOf s) (partsOk s) (λ t. to-T (partsOk s) (parts-ok (parts-of t))) (λ t. of-parts (ok-parts (is-true (partsOk s) t)))

@@ -152,3 +152,7 @@ songsOk x = eqb (length (x .table)) 16 && (selectedLegal x && (playingSet x && a
 
 unfoldable pub streamOk : Stream → Bool
 streamOk x = streamTyped x && (streamLegal x && idsZero x)
+
+-- every part; the partial frame's test is frame's own
+abbrev pub partsOk : State → Bool
+partsOk s = motorsOk (s .mode) (s .motors) && (keptOk (s .kept) && (songsOk (s .songs) && (streamOk (s .stream) && reachableOf (s .partial))))

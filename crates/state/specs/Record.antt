@@ -18,7 +18,7 @@ use Rattle.command.specs.CommandTable.{legalOf}
 use Rattle.command.specs.Commands.{message, isSpeed, isRadius, Sendable}
 use Rattle.command.specs.declared.Command.the-variants as cmd
 use Rattle.state.specs.State.{off, passive, safe, full, noOrder, drive, direct, motorsOff, unset, songAt, powerOn, withMode, withMotors, withKept, withSongs, withStream, withPartial, withWheels, withDuties, withBaud, withLeds, withOutputs, withInfrared, withSong, withSelected, withPlaying, withList, withStreaming, stop, toPassive}
-use Rattle.state.specs.Accepted.{isSet, items, typed, acceptedOf, motorsOk, keptOk, songsOk, streamOk}
+use Rattle.state.specs.Accepted.{isSet, items, typed, acceptedOf, motorsOk, keptOk, songsOk, streamOk, partsOk}
 use Rattle.state.specs.Cases.{recordCases, casesRight, oddRecords}
 use Rattle.state.specs.declared.Motors.{Motors}
 use Rattle.state.specs.declared.Kept.{Kept}
@@ -174,12 +174,11 @@ pub record AcceptedExactly : Type 0 where
   pub tells : (s : State) → T (acceptedOf s) → T (typed s) × Plain s
   pub no-other : (s : State) → T (typed s) → Plain s → T (acceptedOf s)
   -- the tests of the parts, which the code asks
-  pub by-parts : (s : State) → acceptedOf s
-      ≡ (motorsOk (s .mode) (s .motors) && (keptOk (s .kept) && (songsOk (s .songs) && (streamOk (s .stream) && reachableOf (s .partial)))))
+  pub by-parts : (s : State) → acceptedOf s ≡ partsOk s
 
 -- ---- what keeps a record accepted
 
--- of an accepted record
+-- what is told of an accepted record: with what is set, it is accepted too
 pub record StaysAccepted (s : State) : Type 0 where
   -- with another part
   pub mode-kept : (m : ℕ) → m ≤ 3 → (m ≤ 1 → motorsOff (s .motors) ≡ true) → T (acceptedOf (withMode m s))
@@ -208,6 +207,6 @@ pub record StaysAccepted (s : State) : Type 0 where
   pub list-kept : (n : ℕ) (p : List ℕ) → Sendable (message (cmd.Stream n) p) → T (acceptedOf (withList n (take 16 p) s))
   pub streaming-kept : (b : Bool) → T (acceptedOf (withStreaming b s))
 
--- THEOREM
+-- THEOREM: it holds of every accepted record
 abbrev pub AcceptedStays : Type 0
 AcceptedStays = (s : State) → T (acceptedOf s) → StaysAccepted s

@@ -7,9 +7,9 @@
 //     stream     the stream list, whether streaming is on
 //     partial    the held frame
 //
-// The caller hands a record in with each call, so it may be any value of the type; a bad one is refused with 8.
-// Proved (specs/Record.antt): which records are accepted, exactly; the power-on record is; and what a command sets keeps a record accepted, under the condition on
-// what it sets.
+// The board's caller will hand a record in with each call, so it may be any value of the type. This crate says which are bad; the number 8 is the board's.
+// Proved (specs/Record.antt): which records are accepted, exactly; the power-on record is; and each setter keeps a record accepted, under the condition on what it
+// sets.
 ghost use mathlib.Core.Path.{_≡_};
 ghost use mathlib.Core.Bool.{_&&_};
 ghost use Rattle.wire.specs.Lists.{all};
@@ -138,7 +138,7 @@ fn motors_off(motors: Motors) -> bool
     motors.order == NO_ORDER && wire::clear_from(&duties, 0)
 }
 
-// In Off and in Passive.
+// Off and Passive ask that the motors are off.
 fn off_unless_driven(mode: u8, motors: Motors) -> bool
     ensures { λ r. ⌜ r ≡ offUnlessDriven mode motors ⌝ }
 {
