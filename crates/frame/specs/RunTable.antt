@@ -1,11 +1,11 @@
 -- The run table (document 01, 'The run of 128s'): which byte of a run of 128s is first read as an opcode.
 -- Assumes nothing.
-use mathlib.Core.Bool.{Bool, true, false, not, cond, _&&_}
+use mathlib.Core.Bool.{Bool, not, cond, _&&_}
 use mathlib.Core.List.{List, [], _∷_, map}
-use Prim.Native.Nat.{ℕ, suc, _+_, _-_}
+use Prim.Native.Nat.{ℕ, _+_, _-_}
 use lib.Dec.{eqb}
 use lib.ListN.{getD, replicate}
-use Rattle.wire.specs.Lists.{all, among}
+use Rattle.wire.specs.Lists.{all, upToTrue, among}
 use Rattle.frame.specs.Push.{emptyPartial, afterOf, beginsFrame, opcodes}
 use Rattle.frame.specs.declared.Partial.{Partial}
 
@@ -52,12 +52,6 @@ waits p = named runTable p - 1
 
 -- ---- the table against the cut: each row is run
 
--- the place of the first byte that is read as an opcode, counted from 1
-abbrev pub firstOpcode : List Bool → ℕ
-firstOpcode [] = 0
-firstOpcode (true ∷ bs) = 1
-firstOpcode (false ∷ bs) = suc (firstOpcode bs)
-
 -- lists of bytes after which a row speaks of what is held: each opcode of the row; for a known length 1, 4, 255 and 510 bytes remaining
 abbrev pub samples : Progress → List (List ℕ)
 samples nothing = [] ∷ []
@@ -68,7 +62,7 @@ samples (begun ops n) = map (λ op. op ∷ replicate (n - 1) 0) ops
 abbrev pub runs : RunRow → List ℕ → Bool
 runs r bs =
     let p = afterOf emptyPartial bs in
-    isAt (r .progress) p && eqb (firstOpcode (opcodes p (replicate 511 128))) (r .byte (p .remaining))
+    isAt (r .progress) p && eqb (upToTrue (opcodes p (replicate 511 128))) (r .byte (p .remaining))
 
 abbrev pub rowRuns : RunRow → Bool
 rowRuns r = all (runs r) (samples (r .progress))

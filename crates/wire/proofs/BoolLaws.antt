@@ -58,6 +58,15 @@ cond-true b x y e = rw e
 pub cond-false {ℓ} : {A : Type ℓ} (b : Bool) (x y : A) → b ≡ false → cond b x y ≡ y
 cond-false b x y e = rw e
 
+pub cond-not {ℓ} : {A : Type ℓ} (b : Bool) (x y : A) → cond (not b) x y ≡ cond b y x
+cond-not true x y = refl
+cond-not false x y = refl
+
+-- what holds of both branches, each where the test sends it there
+pub cond-is : {A : Type 0} (P : A → Type 0) (b : Bool) {x y : A} → (b ≡ true → P x) → (b ≡ false → P y) → P (cond b x y)
+cond-is P true f g = f refl
+cond-is P false f g = g refl
+
 -- what a `cond` of tests asks, by the first test's value
 pub cond-cases : (a b c : Bool) → T (cond a b c) → ((a ≡ true) × T b) ⊎ ((a ≡ false) × T c)
 cond-cases true b c t = inl (refl, t)

@@ -47,13 +47,16 @@ span-snoc a (suc n) = let e : suc a + n ≡ a + suc n = omega arith in ap (λ (l
 
 -- ---- among
 
--- one of numbers of which none is above m
+-- one of numbers that all pass a test
+pub among-all : (f : ℕ → Bool) (l : List ℕ) (k : ℕ) → T (all f l) → T (among l k) → T (f k)
+among-all f [] k t u = absurd u
+among-all f (x ∷ xs) k t u =
+    let s = and-yes (f x) (all f xs) t in
+    ⊎-elim (λ v. subst (λ (n : ℕ). T (f n)) (sym (eqb→eq k x v)) (s .0)) (λ v. among-all f xs k (s .1) v) (or-yes (eqb k x) (among xs k) u)
+
+-- and of which none is above m
 pub among-le : (l : List ℕ) (m k : ℕ) → T (all (λ x. leb x m) l) → T (among l k) → k ≤ m
-among-le [] m k t u = absurd u
-among-le (x ∷ xs) m k t u =
-    let s = and-yes (leb x m) (all (λ x. leb x m) xs) t in
-    let h = leb→le x m (s .0) in
-    ⊎-elim (λ v. let e = eqb→eq k x v in omega arith) (λ v. among-le xs m k (s .1) v) (or-yes (eqb k x) (among xs k) u)
+among-le l m k t u = leb→le k m (among-all (λ x. leb x m) l k t u)
 
 -- ---- sameList
 
@@ -119,6 +122,13 @@ module _ {ℓ} {A : Type ℓ} (f : A → Bool) where
   all-append (x ∷ xs) m t u =
       let s = and-yes (f x) (all f xs) t in
       yes-and (f x) (all f (xs ++ m)) (s .0) (all-append xs m (s .1) u)
+
+  -- and back, of the first of them
+  pub all-front : (l m : List A) → T (all f (l ++ m)) → T (all f l)
+  all-front [] m t = tt
+  all-front (x ∷ xs) m t =
+      let s = and-yes (f x) (all f (xs ++ m)) t in
+      yes-and (f x) (all f xs) (s .0) (all-front xs m (s .1))
 
   pub all-take : (n : ℕ) (l : List A) → T (all f l) → T (all f (take n l))
   all-take zero l t = tt

@@ -30,6 +30,12 @@ abbrev pub sum : List ℕ → ℕ
 sum [] = 0
 sum (x ∷ xs) = x + sum xs
 
+-- how many elements there are up to the first that is true, and that one; all of them, where none is
+abbrev pub upToTrue : List Bool → ℕ
+upToTrue [] = 0
+upToTrue (true ∷ bs) = 1
+upToTrue (false ∷ bs) = suc (upToTrue bs)
+
 -- k is one of the list's numbers
 abbrev pub among : List ℕ → ℕ → Bool
 among [] k = false

@@ -1,0 +1,55 @@
+-- Demand 2.
+-- Assumes nothing.
+use mathlib.Core.Path.{refl}
+use mathlib.Core.List.{flatten, flatMap}
+use Rattle.wire.specs.Sixteen.{read16Of}
+use Rattle.frame.specs.FrameTable.{dataLength}
+use Rattle.frame.specs.Push.{bodySizeAs}
+use Rattle.frame.specs.Reach.{reachableOf}
+use Rattle.frame.proofs.CutProved.{cut-in-numbers, cut-by-table, run-of-128s}
+use Rattle.packet.specs.SizeTable.{sizeOf, startOf, groupOf, packetsOf}
+use Rattle.packet.specs.Packets.{sensorBytes, packetIn, dataIn, itemsIn, answerBytes, checksumOf, counted, chunkOf, chunkBytes}
+use Rattle.packet.specs.Answers.{listableOf, streamableOf}
+use Rattle.packet.proofs.SensorsProved.{sizes-agree, sensors-in-numbers}
+use Rattle.command.specs.Layout.{commandOf, decodeOf}
+use Rattle.command.specs.CommandTable.{isIn, isLegal, rowOf, allowedOf, legalOf}
+use Rattle.command.proofs.CommandsProved.{commands-in-numbers, round-trip}
+use Rattle.state.specs.State.{motorsOff}
+use Rattle.state.specs.Accepted.{modeNamed, orderNamed, offUnlessDriven, wheelsLegal, dutiesLegal, outputsLegal, baudLegal, selectedLegal, streamLegal, lengthLegal, playingSet, notesZero, idsZero, motorsTyped, keptTyped, songTyped, songsTyped, streamTyped, typed, acceptedOf}
+use Rattle.board.specs.Judge.{statusOf, judgeOf}
+use Rattle.board.specs.Calls.{fedOf, byteOf, intoCliff, reportOf, chunkNow, tickOf, songEndOf, runOf}
+use Rattle.board.specs.Demand2.{Demand2}
+use Rattle.board.proofs.SameLaws.{same-state, equal-same}
+use Rattle.board.proofs.SentLaws.{read-back}
+
+-- the tables of cases are computed: each `tt` and each `refl`
+pub demand-2 : Demand2
+unfolding flatMap flatten read16Of dataLength bodySizeAs reachableOf sizeOf startOf groupOf packetsOf sensorBytes packetIn dataIn itemsIn answerBytes checksumOf counted chunkOf chunkBytes listableOf streamableOf commandOf decodeOf isIn isLegal rowOf allowedOf legalOf motorsOff modeNamed orderNamed offUnlessDriven wheelsLegal dutiesLegal outputsLegal baudLegal selectedLegal streamLegal lengthLegal playingSet notesZero idsZero motorsTyped keptTyped songTyped songsTyped streamTyped typed acceptedOf statusOf judgeOf fedOf byteOf intoCliff reportOf chunkNow tickOf songEndOf runOf
+demand-2 =
+    record {
+      frame-table = cut-by-table;
+      frame-cases = cut-in-numbers;
+      run-table = run-of-128s .rows-run;
+      command-rows = commands-in-numbers .rows-in-order;
+      modes = commands-in-numbers .modes-right;
+      legal-bytes = commands-in-numbers .bytes-right;
+      legal-data = commands-in-numbers .data-right;
+      effect-rows = refl;
+      effects = tt;
+      packet-sizes = sizes-agree;
+      packet-cases = sensors-in-numbers;
+      shown = tt;
+      refuses-all = refl;
+      stays-passive = refl;
+      always-zero = refl;
+      does-nothing = refl;
+      first-byte-only = refl;
+      counts-slice = refl;
+      counts-less = refl;
+      named-cases = tt;
+      further = tt;
+      same-equal = same-state;
+      equal-same = equal-same;
+      write-then-read = read-back;
+      read-then-write = round-trip .read-written;
+    }

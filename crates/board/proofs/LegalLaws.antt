@@ -1,0 +1,42 @@
+-- What legal data tell of the commands whose numbers are used as an index or a length.
+-- Assumes nothing.
+use mathlib.Core.Path.{_≡_, sym, _∙_}
+use mathlib.Core.Bool.{true, _&&_}
+use mathlib.Core.List.{List, [], _∷_}
+use Prim.Native.Nat.{ℕ, _*_, _≤_, _<_}
+use native.Mathlib.Omega.{arith}
+use lib.Dec.{leb}
+use lib.IntN.{pos}
+use lib.ListN.{take}
+use borrow.Author.Tests.{leb-true}
+use Rattle.wire.specs.Lists.{allBytes}
+use Rattle.wire.proofs.BoolLaws.{both}
+use Rattle.packet.specs.Answers.{listableOf}
+use Rattle.command.specs.Layout.{storedCount}
+use Rattle.command.specs.CommandTable.{_to_, isLegal, upTo, rowOf, legalOf}
+use Rattle.command.specs.Commands.{message}
+use Rattle.command.specs.declared.Command.the-variants as cmd
+use Rattle.command.proofs.CommandTableLaws.{up-to, byte-legal, query-legal}
+
+module _ (n : ℕ) (p : List ℕ) where
+  pub song-number : (notes : ℕ) → legalOf (message (cmd.Song n notes) p) ≡ true → n < 16
+  unfolding legalOf rowOf
+  song-number notes e =
+      let second = isLegal ((pos 1 to pos 16) ∷ []) (pos notes) && true in
+      let numbers = both (isLegal (upTo 15) (pos n) && second) (allBytes (take (2 * storedCount notes) p)) e .0 in
+      let h = leb-true n 15 (sym (up-to 15 n) ∙ both (isLegal (upTo 15) (pos n)) second numbers .0) in
+      omega arith
+
+  pub play-number : legalOf (message (cmd.Play n) p) ≡ true → n < 16
+  unfolding legalOf rowOf
+  play-number e = let h = leb-true n 15 (byte-legal 15 n ∙ e) in omega arith
+
+  pub sensors-listable : legalOf (message (cmd.Sensors n) p) ≡ true → listableOf (n ∷ []) ≡ true
+  unfolding legalOf rowOf listableOf
+  sensors-listable e = simp (byte-legal 42 n ∙ e)
+
+  pub query-short : legalOf (message (cmd.QueryList n) p) ≡ true → n ≤ 16
+  query-short e = leb-true n 16 (both (leb n 16) (listableOf (take n p)) (sym (query-legal n p) ∙ e) .0)
+
+  pub query-listable : legalOf (message (cmd.QueryList n) p) ≡ true → listableOf (take n p) ≡ true
+  query-listable e = both (leb n 16) (listableOf (take n p)) (sym (query-legal n p) ∙ e) .1

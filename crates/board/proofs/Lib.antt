@@ -1,0 +1,11 @@
+pub mod OutcomeLaws
+pub mod LegalLaws
+pub mod JudgeLaws
+pub mod CallsLaws
+pub mod RunLaws
+pub mod ListsOfCallsLaws
+pub mod SameLaws
+pub mod SentLaws
+pub mod Demand1Proved
+pub mod Demand2Proved
+pub mod Demand3Proved

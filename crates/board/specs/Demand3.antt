@@ -1,0 +1,98 @@
+-- Demand 3: after any list of calls that reads at least 511 bytes, all 128, from any accepted record, the board is idle; and 511 is the least
+-- (document 01, 'The run of 128s').
+-- Assumes nothing.
+use mathlib.Core.Path.{_≡_}
+use mathlib.Core.Bool.{false}
+use mathlib.Core.List.{List, [], _∷_, _++_, map}
+use Prim.Native.Nat.{ℕ, suc, _≤_, _<_}
+use lib.Dec.{T, leb, eqb}
+use lib.ListN.{length, getD, replicate}
+use Rattle.wire.specs.Lists.{all, upToTrue, allBytes}
+use Rattle.frame.specs.Push.{pushOf, emptyPartial, afterOf, completed}
+use Rattle.frame.specs.RunTable.{waits}
+use Rattle.frame.specs.Cut.{longSong}
+use Rattle.command.specs.Layout.{decodeOf}
+use Rattle.state.specs.State.{full, powerOn, withMode, withPartial}
+use Rattle.state.specs.Accepted.{acceptedOf}
+use Rattle.state.specs.declared.State.{State}
+use Rattle.board.specs.Judge.{judgeOf}
+use Rattle.board.specs.Calls.{Call, byte, run, perform, after, bytesIn, bytesRead, Reading, reading, outcomeAt, readingsIn, readings, numbers, opcodesRead, idle}
+
+-- the last number of a list, and 9 for none
+abbrev pub lastNumber : List ℕ → ℕ
+lastNumber [] = 9
+lastNumber (n ∷ []) = n
+lastNumber (n ∷ (m ∷ ns)) = lastNumber (m ∷ ns)
+
+-- THEOREM: the bytes read one by one, which is how their numbers are defined, are those that the calls count
+pub record CountsAgree : Type 0 where
+  pub same-bytes : (s : State) (c : Call) → map (λ r. r .byte) (readingsIn s c) ≡ bytesIn s c
+  pub same-count : (s : State) (c : Call) → length (readingsIn s c) ≡ perform s c .read
+  pub all-bytes : (s : State) (cs : List Call) → map (λ r. r .byte) (readings s cs) ≡ bytesRead s cs
+  -- a run counts the bytes up to the first that ends a frame, by the cut alone; all of them, where none does
+  pub run-count : (s : State) (bs image buffer : List ℕ) → T (acceptedOf s) → T (allBytes bs)
+      → perform s (run bs image buffer) .read ≡ upToTrue (completed (s .partial) bs)
+  -- it reports the number of its last byte, and 9 where it has read none
+  pub run-number : (s : State) (bs image buffer : List ℕ) → T (acceptedOf s) → T (allBytes bs)
+      → perform s (run bs image buffer) .outcome .number ≡ lastNumber (map (λ r. outcomeAt r .number) (readingsIn s (run bs image buffer)))
+
+-- what stands past the end of a list of readings
+abbrev pub noReading : Reading
+noReading = reading powerOn 0 [] 0
+
+-- the number of the command that byte k ends, at the record then in force: its frame is the held one, with the 128s up to that one
+abbrev pub endsHeld : State → List Call → ℕ → ℕ
+endsHeld s cs k =
+    let r = getD (readings s cs) k noReading in
+    judgeOf (withPartial emptyPartial (r .state)) (decodeOf (pushOf (afterOf (s .partial) (replicate k 128)) 128 .partial .bytes)) (r .image) (r .room) .number
+
+-- what is told of a list of calls from s that reads nothing but 128s. Bytes are counted from 0, so that the named one is byte `waits`.
+pub record Told (s : State) (cs : List Call) : Type 0 where
+  -- the named byte is the first that is read as an opcode, and all later ones are too
+  pub opcode-at : (k : ℕ) → k < length (bytesRead s cs) → getD (opcodesRead s cs) k false ≡ leb (waits (s .partial)) k
+  -- the bytes before it give 9, save the last of them
+  pub before-nine : (k : ℕ) → suc k < waits (s .partial) → k < length (bytesRead s cs) → getD (numbers s cs) k 0 ≡ 9
+  -- which gives the number of the command that it ends
+  pub last-ends : (k : ℕ) → suc k ≡ waits (s .partial) → k < length (bytesRead s cs) → getD (numbers s cs) k 0 ≡ endsHeld s cs k
+  -- the named byte and all later ones give 0
+  pub then-zero : (k : ℕ) → waits (s .partial) ≤ k → k < length (bytesRead s cs) → getD (numbers s cs) k 9 ≡ 0
+  -- from the named byte on the board is idle after every call
+  pub idle-after : (done rest : List Call) → cs ≡ done ++ rest → waits (s .partial) < length (bytesRead s done) → T (idle (after s done))
+  -- so after 511 bytes, whatever was held
+  pub idle-by-511 : 511 ≤ length (bytesRead s cs) → T (idle (after s cs))
+
+-- each byte that is read is 128; what a run leaves unread may be anything
+abbrev pub All128 : State → List Call → Type 0
+All128 s cs = T (all (λ b. eqb b 128) (bytesRead s cs))
+
+-- in Full, with 510 bytes remaining
+abbrev pub longest : State
+longest = withMode full (withPartial (longSong 0 510) powerOn)
+
+-- n calls of a byte 128
+abbrev pub calls128 : ℕ → List ℕ → List ℕ → List Call
+calls128 n image buffer = replicate n (byte 128 image buffer)
+
+-- an accepted record from which the list reads at least 511 bytes
+pub record NeedsAll (cs : List Call) : Type 0 where
+  pub from : State
+  pub accepted : T (acceptedOf from)
+  pub reads : 511 ≤ length (bytesRead from cs)
+
+-- THEOREM: demand 3
+pub record Demand3 : Type 0 where
+  pub counts-agree : CountsAgree
+  -- the cut never depends on the mode, nor on a refusal: calls that read no byte leave the held frame alone, and bytes of any values are cut as `next` does
+  pub cut : (s : State) (cs : List Call) → after s cs .partial ≡ afterOf (s .partial) (bytesRead s cs)
+  -- enough
+  pub told : (s : State) → T (acceptedOf s) → (cs : List Call) → All128 s cs → Told s cs
+  -- least: of every record in Full with 510 bytes remaining, bad ones too, and bytes of any values
+  pub least : (s : State) → s .mode ≡ 3 → s .partial .remaining ≡ 510 → (cs : List Call) → T (idle (after s cs)) → 511 ≤ length (bytesRead s cs)
+  -- such a record is accepted; from it 511 bytes 128 end idle, and 510 do not
+  pub longest-accepted : T (acceptedOf longest)
+  pub longest-mode : longest .mode ≡ 3
+  pub longest-remaining : longest .partial .remaining ≡ 510
+  pub with-511 : (image buffer : List ℕ) → T (idle (after longest (calls128 511 image buffer)))
+  pub not-with-510 : (image buffer : List ℕ) → idle (after longest (calls128 510 image buffer)) ≡ false
+  -- so no list with fewer ends idle from every accepted record
+  pub none-less : (cs : List Call) → ((s : State) → T (acceptedOf s) → T (idle (after s cs))) → NeedsAll cs

@@ -1,0 +1,171 @@
+-- What a command does when its last byte comes, by the mode then in force (document 01, 'Commands at their last byte', 'Numbers given back').
+-- It knows no bytes of a frame.
+-- Assumes nothing.
+use mathlib.Core.Bool.{Bool, true, false, not, cond}
+use mathlib.Core.List.{List, [], _∷_}
+use Prim.Native.Nat.{ℕ, _/_, _%_}
+use lib.Dec.{leb, eqb}
+use lib.IntN.{ℤ, pos}
+use lib.ListN.{length, take}
+use Rattle.packet.specs.Packets.{answerBytes}
+use Rattle.packet.specs.declared.Status.{Status}
+use Rattle.command.specs.Layout.{refusalOf}
+use Rattle.command.specs.CommandTable.{allowedOf, legalOf}
+use Rattle.command.specs.declared.Command.{Command}
+use Rattle.command.specs.declared.Command.the-variants as cmd
+use Rattle.command.specs.declared.Message.{Message}
+use Rattle.state.specs.State.{safe, full, drive, direct, songAt, withMode, withWheels, withDuties, withBaud, withLeds, withOutputs, withInfrared, withSong, withSelected, withPlaying, withList, withStreaming, toPassive}
+use Rattle.state.specs.Accepted.{isSet}
+use Rattle.state.specs.declared.Motors.{Motors}
+use Rattle.state.specs.declared.State.{State}
+use Rattle.board.specs.Outcome.{Outcome, gives, answers}
+
+-- ---- packets 35 to 42
+
+-- a number of a wheel order of this kind; those of no present order are 0
+abbrev pub ofOrder : ℕ → Motors → ℤ → ℤ
+ofOrder kind m v = cond (eqb (m .order) kind) v (pos 0)
+
+-- from the state: 36 is the selected song though it is not set, 38 the list's length though streaming is off
+unfoldable pub statusOf : State → Status
+statusOf s =
+    record {
+      mode = s .mode;
+      selected = s .songs .selected;
+      playing = s .songs .playing;
+      listed = s .stream .count;
+      velocity = ofOrder drive (s .motors) (s .motors .first);
+      radius = ofOrder drive (s .motors) (s .motors .second);
+      right = ofOrder direct (s .motors) (s .motors .first);
+      left = ofOrder direct (s .motors) (s .motors .second);
+    }
+
+-- ---- the column of effects
+
+-- 138: bit i set: duty i is 128, else 0. place is 1, 2 or 4, the bit's worth.
+abbrev pub dutyOf : ℕ → ℕ → ℕ
+dutyOf bits place = cond (eqb (bits / place % 2) 1) 128 0
+
+-- what a command needs, beside its mode and legal data: nothing; that a song is set and none plays; room for the answer of these packets
+pub data Needs : Type 0 where
+  nothing : Needs
+  aSong : ℕ → Needs
+  packets : List ℕ → Needs
+
+pub record Effect : Type 0 where
+  pub sets : State → State
+  pub needs : Needs
+
+abbrev does : (State → State) → Effect
+does f = record { sets = f; needs = nothing }
+
+abbrev plays : ℕ → (State → State) → Effect
+plays n f = record { sets = f; needs = aSong n }
+
+-- an answer leaves the record as it is
+abbrev asks : List ℕ → Effect
+asks ids = record { sets = λ s. s; needs = packets ids }
+
+-- what a command does, by the payload that came with it, in the order of document 01's rows. 'Passive, stop' is toPassive.
+abbrev pub effectOf : Command → List ℕ → Effect
+effectOf cmd.Start p = does toPassive
+-- code kept; Passive, stop
+effectOf (cmd.Baud code) p = does (λ s. toPassive (withBaud code s))
+effectOf cmd.Control p = does (withMode safe)
+-- motors kept
+effectOf cmd.Safe p = does (withMode safe)
+effectOf cmd.Full p = does (withMode full)
+effectOf cmd.Power p = does toPassive
+effectOf cmd.Demo p = does toPassive
+effectOf cmd.Spot p = does toPassive
+effectOf cmd.Cover p = does toPassive
+effectOf cmd.Dock p = does toPassive
+-- wheels: that order
+effectOf (cmd.Drive velocity radius) p = does (withWheels drive velocity radius)
+effectOf (cmd.Direct right left) p = does (withWheels direct right left)
+effectOf (cmd.Drivers bits) p = does (withDuties (dutyOf bits 1 ∷ dutyOf bits 2 ∷ dutyOf bits 4 ∷ []))
+-- sent for driver 2, 1, 0
+effectOf (cmd.Duties driver2 driver1 driver0) p = does (withDuties (driver0 ∷ driver1 ∷ driver2 ∷ []))
+-- kept as sent
+effectOf (cmd.Leds bits color intensity) p = does (withLeds (bits ∷ color ∷ intensity ∷ []))
+effectOf (cmd.Outputs bits) p = does (withOutputs bits)
+effectOf (cmd.Infrared code) p = does (withInfrared code)
+-- song replaced; the notes past its length are 0 in the payload
+effectOf (cmd.Song number notes) p = does (withSong number (record { len = notes; notes = p }))
+-- selected, playing
+effectOf (cmd.Play number) p = plays number (λ s. withPlaying true (withSelected number s))
+-- answers that packet
+effectOf (cmd.Sensors id) p = asks (id ∷ [])
+-- answers the packets in order
+effectOf (cmd.QueryList ids) p = asks (take ids p)
+-- list replaced, streaming on
+effectOf (cmd.Stream ids) p = does (λ s. withStreaming true (withList ids (take 16 p) s))
+-- streaming off or on, list kept
+effectOf (cmd.Pause on) p = does (withStreaming (not (eqb on 0)))
+-- refused as such
+effectOf (cmd.Unknown op) p = does (λ s. s)
+effectOf (cmd.NotOffered op) p = does (λ s. s)
+
+-- the effect of a message
+abbrev pub effectIn : Message → Effect
+effectIn m = effectOf (m .command) (m .payload)
+
+-- the bytes of its answer: none, where it asks for no packets
+abbrev pub answerOf : State → Needs → List ℕ → List ℕ
+answerOf s nothing image = []
+answerOf s (aSong n) image = []
+answerOf s (packets ids) image = answerBytes (statusOf s) image ids
+
+-- ---- the numbers
+
+-- 5: Play of a song never set
+abbrev pub noSong : State → Needs → Bool
+noSong s nothing = false
+noSong s (aSong n) = not (isSet (songAt (s .songs) n))
+noSong s (packets ids) = false
+
+-- 6: Play while playing
+abbrev pub busy : State → Needs → Bool
+busy s nothing = false
+busy s (aSong n) = s .songs .playing
+busy s (packets ids) = false
+
+-- a number, and when it is given
+pub record Rule : Type 0 where
+  pub number : ℕ
+  pub when : Bool
+
+infix 60 _if_
+abbrev pub _if_ : ℕ → Bool → Rule
+n if b = record { number = n; when = b }
+
+-- document 01's numbers 1 to 7, in its order
+abbrev pub rules : State → Message → List ℕ → ℕ → List Rule
+rules s m image room =
+    let c = m .command in
+    let needs = effectIn m .needs in
+    -- unknown: opcode not in the frame table
+    (1 if eqb (refusalOf c) 1)
+    -- not offered: 152 to 158
+    ∷ (2 if eqb (refusalOf c) 2)
+    -- wrong mode: mode not listed
+    ∷ (3 if not (allowedOf c (s .mode)))
+    -- data not legal
+    ∷ (4 if not (legalOf m))
+    ∷ (5 if noSong s needs)
+    ∷ (6 if busy s needs)
+    -- no room: answer longer than the lent buffer
+    ∷ (7 if not (leb (length (answerOf s needs image)) room))
+    ∷ []
+
+-- the first of the rules that applies, and the record stays as it is
+abbrev pub first : List Rule → State → Outcome → Outcome
+first [] s otherwise = otherwise
+first (r ∷ rs) s otherwise = cond (r .when) (gives (r .number) s) (first rs s otherwise)
+
+-- 0 done, otherwise: the effect, and the answer
+abbrev pub judgedBy : List Rule → State → Message → List ℕ → Outcome
+judgedBy rs s m image = first rs s (answers (answerOf s (effectIn m .needs) image) (effectIn m .sets s))
+
+unfoldable pub judgeOf : State → Message → List ℕ → ℕ → Outcome
+judgeOf s m image room = judgedBy (rules s m image room) s m image

@@ -1,0 +1,9 @@
+pub mod Outcome
+pub mod Judge
+pub mod Calls
+pub mod Same
+pub mod EffectTable
+pub mod Shown
+pub mod Demand1
+pub mod Demand2
+pub mod Demand3

@@ -1,0 +1,36 @@
+-- What a call gives (document 01, 'Numbers given back'): both equations of a call's contract are read off one outcome.
+-- Assumes nothing.
+use mathlib.Core.Bool.{cond}
+use mathlib.Core.List.{List, []}
+use Prim.Native.Nat.{ℕ}
+use lib.Dec.{leb}
+use lib.ListN.{length}
+use Rattle.wire.specs.Buffer.{overwrite}
+use Rattle.state.specs.declared.State.{State}
+use Rattle.board.specs.declared.Answer.{Answer}
+
+-- its number, the new record, and the bytes of its answer
+pub record Outcome : Type 0 where
+  pub number : ℕ
+  pub state : State
+  pub answer : List ℕ
+
+-- this number and record, and no answer bytes: every number but 0, and 0 where the call has none
+abbrev pub gives : ℕ → State → Outcome
+gives n s = record { number = n; state = s; answer = [] }
+
+-- 0 with these bytes
+abbrev pub answers : List ℕ → State → Outcome
+answers bytes s = record { number = 0; state = s; answer = bytes }
+
+-- the bytes, or 7, no room: answer longer than the lent buffer
+abbrev pub fitted : List ℕ → ℕ → State → Outcome
+fitted bytes room s = cond (leb (length bytes) room) (answers bytes s) (gives 7 s)
+
+-- what comes back
+unfoldable pub answered : Outcome → Answer
+answered o = record { number = o .number; length = length (o .answer); state = o .state }
+
+-- the lent buffer at exit: an answer writes only its own length from the buffer's start
+unfoldable pub written : Outcome → List ℕ → List ℕ
+written o buffer = overwrite (o .answer) buffer

@@ -1,0 +1,351 @@
+// The board: five calls on a state record, which goes in by value and comes back by value with document 01's number.
+//
+//     byte             one byte of a frame; a command is judged when its last byte comes, by the mode then in force
+//     run              the bytes of a slice, until one gives a number other than 9 or the slice ends
+//     safety_report    wheel drop, cliff, powered charger: in Safe it may stop the motors and enter Passive
+//     tick             the chunk of the stream list
+//     song_end         the song that plays has ended
+//
+//     8 bad record, 9 waiting, then 1 unknown, 2 not offered, 3 wrong mode, 4 data, 5 no song, 6 busy, 7 no room, and else 0 done
+//
+// Proved (specs/Demand1.antt, Demand2.antt, Demand3.antt): for any record, bytes, report and buffer there is an answer, and a refusal changes nothing but the
+// frame it reads past and writes nothing; the tables and the shown cases of document 01 come out as written; and from any accepted record every list of
+// calls that reads at least 511 bytes, all 128, ends in Passive with nothing half read and all motors off, and 511 is the least.
+mod effect;
+
+ghost use mathlib.Core.Path.{_≡_};
+ghost use mathlib.Core.Bool.{true, cond, _&&_};
+ghost use mathlib.Core.List.{[], _∷_};
+ghost use Prim.Native.Nat.{_<_};
+ghost use lib.IntN.{pos};
+ghost use lib.Signed.{ltZ};
+ghost use lib.ListN.{length, drop};
+ghost use Rattle.wire.specs.Sixteen.{minus};
+ghost use Rattle.packet.specs.Packets.{answerBytes};
+ghost use Rattle.packet.specs.Answers.{listableOf};
+ghost use Rattle.command.specs.Layout.{refusalOf};
+ghost use Rattle.command.specs.CommandTable.{legalOf};
+ghost use Rattle.state.specs.State.{songAt};
+ghost use Rattle.state.specs.Accepted.{isSet};
+ghost use Rattle.board.specs.Outcome.{gives, fitted, answered, written};
+ghost use Rattle.board.specs.Judge.{statusOf, rules, judgedBy, judgeOf};
+ghost use Rattle.board.specs.Calls.{fedOf, byteOf, intoCliff, stopsFor, reportOf, tickOf, songEndOf, runOf, ranAs};
+use command::Command;
+use command::Message;
+use effect::effect;
+use effect::to_passive;
+use effect::with_partial;
+use effect::with_songs;
+use frame::Pushed;
+use packet::Status;
+use state::Motors;
+use state::Songs;
+use state::State;
+
+// Document 01's numbers given back; 4 and 7 are wire's.
+const DONE: u8 = 0;
+
+const UNKNOWN: u8 = 1;
+
+const NOT_OFFERED: u8 = 2;
+
+const WRONG_MODE: u8 = 3;
+
+const NO_SONG: u8 = 5;
+
+const BUSY: u8 = 6;
+
+const BAD_RECORD: u8 = 8;
+
+const WAITING: u8 = 9;
+
+// What a call gives back: document 01's number, the length of what it wrote at its buffer's start, and the new record.
+#[repr(C)]
+pub struct Answer {
+    pub number: u8,
+    pub length: usize,
+    pub state: State,
+}
+
+// And a run, with how many bytes were read.
+#[repr(C)]
+pub struct Ran {
+    pub number: u8,
+    pub length: usize,
+    pub state: State,
+    pub read: usize,
+}
+
+// Number and record, and nothing written.
+fn give(number: u8, state: State) -> Answer
+    ensures { λ r. ⌜ r ≡ answered (gives number state) ⌝ }
+{
+    Answer {
+        number,
+        length: 0,
+        state,
+    }
+}
+
+// A number of a wheel order, and 0 where that order is not present.
+fn present(is: bool, v: i16) -> i16
+    ensures { λ r. ⌜ r ≡ cond is v (pos 0) ⌝ }
+{
+    if is { v } else { 0 }
+}
+
+// What packets 35 to 42 tell.
+fn status_of(state: State) -> Status
+    ensures { λ r. ⌜ r ≡ statusOf state ⌝ }
+{
+    let motors = state.motors;
+    let songs = state.songs;
+    let stream = state.stream;
+    let drives = motors.order == state::DRIVE;
+    let directs = motors.order == state::DIRECT;
+    Status {
+        mode: state.mode,
+        selected: songs.selected,
+        playing: songs.playing,
+        listed: stream.count,
+        velocity: present(drives, motors.first),
+        radius: present(drives, motors.second),
+        right: present(directs, motors.first),
+        left: present(directs, motors.second),
+    }
+}
+
+// The number by which a variant is refused as such; 0 for an offered command.
+fn refusal_of(command: Command) -> u8
+    ensures { λ r. ⌜ r ≡ refusalOf command ⌝ }
+{
+    match command {
+        Command::Unknown(_) => UNKNOWN,
+        Command::NotOffered(_) => NOT_OFFERED,
+        _ => DONE,
+    }
+}
+
+// Whether a song of the table is set.
+fn is_set(songs: Songs, number: u8) -> bool
+    requires { ⌜ number < 16 ⌝ }
+    ensures { λ r. ⌜ r ≡ isSet (songAt songs number) ⌝ }
+{
+    let table = songs.table;
+    table[number as usize].len != 0
+}
+
+// 142 and 149: the packets, or 7.
+fn reply(state: State, ids: &[u8], image: &[u8; 40], buffer: &mut [u8]) -> Answer
+    requires { ⌜ listableOf (now ids) ≡ true ⌝ }
+    ensures { λ r. ⌜ (r ≡ answered (fitted (answerBytes (statusOf state) (now (image .entry)) (now (ids .entry))) (length (now (buffer .entry))) state))
+        × (now (buffer .exit) ≡ written (fitted (answerBytes (statusOf state) (now (image .entry)) (now (ids .entry))) (length (now (buffer .entry))) state) (now (buffer .entry))) ⌝ }
+{
+    let sent = packet::answer(ids, status_of(state), image, buffer);
+    Answer {
+        number: sent.number,
+        length: sent.length,
+        state,
+    }
+}
+
+// An offered command in one of its modes, with legal data: numbers 5 to 7 in their order, and else its effect.
+fn carry_out(state: State, message: Message, image: &[u8; 40], buffer: &mut [u8]) -> Answer
+    requires { ⌜ legalOf message ≡ true ⌝ }
+    ensures { λ r. ⌜ (r ≡ answered (judgedBy (drop 4 (rules state message (now (image .entry)) (length (now (buffer .entry))))) state message (now (image .entry))))
+        × (now (buffer .exit) ≡ written (judgedBy (drop 4 (rules state message (now (image .entry)) (length (now (buffer .entry))))) state message (now (image .entry))) (now (buffer .entry))) ⌝ }
+{
+    let command = message.command;
+    let payload = message.payload;
+    match command {
+        Command::Play(number) => {
+            let songs = state.songs;
+            if !is_set(songs, number) {
+                return give(NO_SONG, state);
+            }
+            if songs.playing {
+                return give(BUSY, state);
+            }
+            give(DONE, effect(state, message))
+        }
+        Command::Sensors(id) => {
+            let one = [id];
+            reply(state, &one, image, buffer)
+        }
+        Command::QueryList(ids) => reply(state, &payload[0..ids as usize], image, buffer),
+        _ => give(DONE, effect(state, message)),
+    }
+}
+
+// What a command does when its last byte comes: the numbers 1 to 7 in their order, and else its effect.
+fn judge(state: State, message: Message, image: &[u8; 40], buffer: &mut [u8]) -> Answer
+    ensures { λ r. ⌜ (r ≡ answered (judgeOf state message (now (image .entry)) (length (now (buffer .entry)))))
+        × (now (buffer .exit) ≡ written (judgeOf state message (now (image .entry)) (length (now (buffer .entry)))) (now (buffer .entry))) ⌝ }
+{
+    let command = message.command;
+    let refused = refusal_of(command);
+    if refused != DONE {
+        return give(refused, state);
+    }
+    if !command::allowed(command, state.mode) {
+        return give(WRONG_MODE, state);
+    }
+    if !command::legal(message) {
+        return give(wire::NOT_LEGAL, state);
+    }
+    carry_out(state, message, image, buffer)
+}
+
+// A pushed byte: the frame waits on, or its command is judged and the frame is read past.
+fn fed(state: State, pushed: Pushed, image: &[u8; 40], buffer: &mut [u8]) -> Answer
+    ensures { λ r. ⌜ (r ≡ answered (fedOf state pushed (now (image .entry)) (length (now (buffer .entry)))))
+        × (now (buffer .exit) ≡ written (fedOf state pushed (now (image .entry)) (length (now (buffer .entry)))) (now (buffer .entry))) ⌝ }
+{
+    let partial = pushed.partial;
+    if !pushed.complete {
+        return give(WAITING, with_partial(state, partial));
+    }
+    let bytes = partial.bytes;
+    let cleared = with_partial(state, frame::empty());
+    judge(cleared, command::decode(bytes), image, buffer)
+}
+
+// One byte.
+pub fn byte(state: State, b: u8, image: &[u8; 40], buffer: &mut [u8]) -> Answer
+    ensures { λ r. ⌜ (r ≡ answered (byteOf state b (now (image .entry)) (length (now (buffer .entry)))))
+        × (now (buffer .exit) ≡ written (byteOf state b (now (image .entry)) (length (now (buffer .entry)))) (now (buffer .entry))) ⌝ }
+{
+    if !state::accepts(state) {
+        return give(BAD_RECORD, state);
+    }
+    let partial = state.partial;
+    let pushed = frame::push(partial, b);
+    fed(state, pushed, image, buffer)
+}
+
+// Bytes of a slice, fed until one gives a number other than 9 or the slice ends. The record is checked once: before the run's end only the partial frame
+// changes.
+pub fn run(state: State, bytes: &[u8], image: &[u8; 40], buffer: &mut [u8]) -> Ran
+    ensures { λ r. ⌜ (r ≡ ranAs (runOf state (now (bytes .entry)) (now (image .entry)) (length (now (buffer .entry)))))
+        × (now (buffer .exit) ≡ written (runOf state (now (bytes .entry)) (now (image .entry)) (length (now (buffer .entry))) .outcome) (now (buffer .entry))) ⌝ }
+{
+    if !state::accepts(state) {
+        return Ran {
+            number: BAD_RECORD,
+            length: 0,
+            state,
+            read: 0,
+        };
+    }
+    let mut partial = state.partial;
+    let mut read = 0;
+    let ran = loop {
+        if read == bytes.len() {
+            break Ran {
+                number: WAITING,
+                length: 0,
+                state: with_partial(state, partial),
+                read,
+            };
+        }
+        let pushed = frame::push(partial, bytes[read]);
+        read += 1;
+        if pushed.complete {
+            let answer = fed(state, pushed, image, buffer);
+            let next = answer.state;
+            break Ran {
+                number: answer.number,
+                length: answer.length,
+                state: next,
+                read,
+            };
+        }
+        partial = pushed.partial;
+    };
+    ran
+}
+
+// Backwards on a tight curve: a radius strictly between -165 and 165.
+fn backs_tightly(velocity: i16, radius: i16) -> bool
+    ensures { λ r. ⌜ r ≡ (ltZ velocity (pos 0) && (ltZ (minus 165) radius && ltZ radius (pos 165))) ⌝ }
+{
+    velocity < 0 && (-165 < radius && radius < 165)
+}
+
+// Whether the base moves into a cliff; of a Drive the two numbers are velocity and radius, of a Direct right and left.
+fn into_cliff(motors: Motors) -> bool
+    ensures { λ r. ⌜ r ≡ intoCliff motors ⌝ }
+{
+    let order = motors.order;
+    let first = motors.first;
+    let second = motors.second;
+    if order == state::DRIVE {
+        return first > 0 || backs_tightly(first, second);
+    }
+    order == state::DIRECT && (first > 0 || second > 0)
+}
+
+// Whether a report stops the base, were it in Safe.
+fn stops_for(motors: Motors, drop: bool, cliff: bool, charger: bool) -> bool
+    ensures { λ r. ⌜ r ≡ stopsFor motors drop cliff charger ⌝ }
+{
+    drop || (charger || (cliff && into_cliff(motors)))
+}
+
+// A safety report: wheel drop, cliff, powered charger. It stops the base in Safe alone, and never touches a half-read frame.
+pub fn safety_report(state: State, drop: bool, cliff: bool, charger: bool) -> Answer
+    ensures { λ r. ⌜ r ≡ answered (reportOf state drop cliff charger) ⌝ }
+{
+    if !state::accepts(state) {
+        return give(BAD_RECORD, state);
+    }
+    let motors = state.motors;
+    if state.mode == command::SAFE && stops_for(motors, drop, cliff, charger) {
+        return give(DONE, to_passive(state));
+    }
+    give(DONE, state)
+}
+
+// A tick: the chunk of the stream list, where there is one to write.
+pub fn tick(state: State, image: &[u8; 40], buffer: &mut [u8]) -> Answer
+    ensures { λ r. ⌜ (r ≡ answered (tickOf state (now (image .entry)) (length (now (buffer .entry)))))
+        × (now (buffer .exit) ≡ written (tickOf state (now (image .entry)) (length (now (buffer .entry)))) (now (buffer .entry))) ⌝ }
+{
+    if !state::accepts(state) {
+        return give(BAD_RECORD, state);
+    }
+    if state.mode == command::OFF {
+        return give(WRONG_MODE, state);
+    }
+    let stream = state.stream;
+    if !stream.on {
+        return give(DONE, state);
+    }
+    if stream.count == 0 {
+        return give(DONE, state);
+    }
+    let ids = stream.ids;
+    let sent = packet::chunk(
+        &ids[0..stream.count as usize],
+        status_of(state),
+        image,
+        buffer,
+    );
+    Answer {
+        number: sent.number,
+        length: sent.length,
+        state,
+    }
+}
+
+// A song end only clears playing.
+pub fn song_end(state: State) -> Answer
+    ensures { λ r. ⌜ r ≡ answered (songEndOf state) ⌝ }
+{
+    if !state::accepts(state) {
+        return give(BAD_RECORD, state);
+    }
+    let mut songs = state.songs;
+    songs.playing = false;
+    give(DONE, with_songs(state, songs))
+}
