@@ -20,8 +20,8 @@ use Rattle.state.specs.Accepted.{acceptedOf}
 use Rattle.state.specs.declared.State.{State}
 use Rattle.state.proofs.RecordProved.{accepted-stays}
 use Rattle.board.specs.Outcome.{Outcome, gives, answered, written}
-use Rattle.board.specs.Calls.{byteOf, reportOf, tickOf, songEndOf, Performed, performed, readBy, reads, readsNone, feed, runOf, Call, byte, run, report, tick, songEnd, perform, bytesOf}
-use Rattle.board.specs.Demand1.{numbersOf, bufferOf, leftBy, outcome, Demand1}
+use Rattle.board.specs.Calls.{byteOf, reportOf, tickOf, songEndOf, Performed, performed, readBy, reads, readsNone, feed, runOf, ranAs, Call, byte, run, report, tick, songEnd, perform, bytesOf}
+use Rattle.board.specs.Demand1.{GivenBack, numbersOf, bufferOf, leftBy, outcome, Demand1}
 use Rattle.board.proofs.JudgeLaws.{judge-small, judge-refused, judge-room}
 use Rattle.board.proofs.CallsLaws.{checked-bad, messageOf, takes-accepted, judgedAt, byte-bad, byte-is, byte-eight, byte-nine, byte-accepted, report-is, tick-is, song-end-is, feed-is, run-is}
 
@@ -159,10 +159,22 @@ whole s songEnd e = absurd (never s songEnd 9 refl e)
 
 -- ---- the theorem
 
+given-back : GivenBack
+unfolding answered ranAs
+given-back =
+    record {
+      number-back = λ o. refl;
+      length-back = λ o. refl;
+      state-back = λ o. refl;
+      run-back = λ p. (refl, (refl, refl));
+      count-back = λ p. refl;
+    }
+
 pub demand-1 : Demand1
 unfolding answered written overwrite
 demand-1 =
     record {
+      given-back = given-back;
       numbers-given = λ s c. told s c .numbered;
       bad-eight = bad-eight;
       eight-bad = λ s c t u. stays s c t u .0;

@@ -19,6 +19,7 @@ use Rattle.state.specs.Accepted.{modeNamed, orderNamed, offUnlessDriven, wheels
 use Rattle.board.specs.Judge.{statusOf, judgeOf}
 use Rattle.board.specs.Calls.{fedOf, byteOf, intoCliff, reportOf, chunkNow, tickOf, songEndOf, runOf}
 use Rattle.board.specs.Demand2.{Demand2}
+use Rattle.board.proofs.RulesProved.{rules-right}
 use Rattle.board.proofs.SameLaws.{same-state, equal-same}
 use Rattle.board.proofs.SentLaws.{read-back}
 
@@ -31,6 +32,7 @@ demand-2 =
       frame-cases = cut-in-numbers;
       run-table = run-of-128s .rows-run;
       command-rows = commands-in-numbers .rows-in-order;
+      refusals = commands-in-numbers .refusals-right;
       modes = commands-in-numbers .modes-right;
       legal-bytes = commands-in-numbers .bytes-right;
       legal-data = commands-in-numbers .data-right;
@@ -48,6 +50,7 @@ demand-2 =
       counts-less = refl;
       named-cases = tt;
       further = tt;
+      rules = rules-right;
       same-equal = same-state;
       equal-same = equal-same;
       write-then-read = read-back;

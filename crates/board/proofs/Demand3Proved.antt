@@ -1,7 +1,7 @@
 -- Demand 3.
 -- Assumes nothing.
 use mathlib.Core.Path.{_≡_, refl, sym, ap, ap₂, subst, _∙_}
-use mathlib.Core.Bool.{Bool, true, false, not, and-false}
+use mathlib.Core.Bool.{Bool, true, false, not, and-false, _&&_}
 use mathlib.Core.List.{List, [], _∷_, _++_, map, append-assoc}
 use mathlib.Core.Logic.{⊎-elim}
 use Prim.Native.Nat.{ℕ, zero, suc, _-_, _≤_, _<_}
@@ -12,7 +12,7 @@ use lib.ListN.{length, getD, take, replicate, length-replicate, length-map, List
 use mir.Facts.{and-yes}
 use borrow.Author.Tests.{le-leb, lt-leb, eqb-true, eq-eqb, ne-eqb}
 use Rattle.wire.specs.Lists.{all, upToTrue, isByte, allBytes}
-use Rattle.wire.proofs.BoolLaws.{to-T, both, le-or-lt}
+use Rattle.wire.proofs.BoolLaws.{is-true, to-T, both, le-or-lt}
 use Rattle.wire.proofs.ListsLaws.{getD-any, all-front}
 use Rattle.frame.specs.FrameTable.{dataLength}
 use Rattle.frame.specs.Push.{bodySizeAs, pushOf, emptyPartial, nextOf, afterOf, opcodes, completed}
@@ -35,7 +35,7 @@ use Rattle.state.proofs.RecordProved.{power-on-right, stop-right, accepted-exac
 use Rattle.board.specs.Outcome.{Outcome, gives}
 use Rattle.board.specs.Judge.{judgeOf}
 use Rattle.board.specs.Calls.{byteOf, Performed, feed, Call, byte, run, perform, after, bytesIn, bytesRead, Reading, reading, outcomeAt, readingsOf, readingsIn, readings, numbers, idle}
-use Rattle.board.specs.Demand3.{noReading, lastNumber, CountsAgree, Told, All128, longest, calls128, Demand3}
+use Rattle.board.specs.Demand3.{noReading, lastNumber, CountsAgree, IdleTells, Told, All128, longest, calls128, Demand3}
 use Rattle.board.proofs.JudgeLaws.{judge-illegal, judge-start}
 use Rattle.board.proofs.CallsLaws.{accepted-reachable, messageOf, byte-is, byte-waits, byte-judged, byte-next, byte-ends, takes-accepted, byte-accepted, feed-is, run-is}
 use Rattle.board.proofs.ListsOfCallsLaws.{Fed, none, more, last, reads-one, first-fed, bytesAt, same-bytes, same-count, Quiet, same, stopped, silent, quiet-partial, read-bytes, read-count, Course, over, quiet, reads, course, cut}
@@ -83,9 +83,19 @@ fed-place image room =
     let e : pushOf (s .partial) b .complete ≡ true = byte-ends s b image room t ∙ ap not (ne-eqb (byteOf s b image room .number) 9 n) in
     reads-one s b image room t ∙ sym (ap (λ (c : Bool). upToTrue (c ∷ completed (nextOf (s .partial) b) bs)) e))
 
+byte-number : (s : State) (b : ℕ) (image : List ℕ) (room : ℕ) → T (acceptedOf s)
+    → numbersAt (readingsOf s (b ∷ []) image room) ≡ byteOf s b image room .number ∷ []
+byte-number s b image room t = go (first-fed s b [] image room)
+  where
+    go : Fed s b [] image room → numbersAt (readingsOf s (b ∷ []) image room) ≡ byteOf s b image room .number ∷ []
+    go (none e f r) = absurd (subst T e t)
+    go (more a n f r) = ap numbersAt r
+    go (last a f r) = ap numbersAt r
+
 counts-agree : CountsAgree
 counts-agree =
     record {
+      byte-number = λ s b image buffer t. byte-number s b image (length buffer) t;
       same-bytes = same-bytes;
       same-count = same-count;
       all-bytes = λ s cs. read-bytes cs s;
@@ -191,9 +201,20 @@ idle-so : (s : State) → Idle s → T (idle s)
 unfolding idle
 idle-so s i = to-T (idle s) (simp (eq-eqb (s .mode) 1 (i .passive), i .nothing, i .off))
 
-idle-mode : (s : State) → T (idle s) → s .mode ≡ 1
+idle-tells : (s : State) → T (idle s) → IdleTells s
 unfolding idle
-idle-mode s t = eqb→eq (s .mode) 1 (and-yes (eqb (s .mode) 1) _ t .0)
+idle-tells s t =
+    let a = and-yes (eqb (s .mode) 1) (eqb (s .partial .count) 0 && (eqb (s .partial .remaining) 0 && motorsOff (s .motors))) t in
+    let b = and-yes (eqb (s .partial .count) 0) (eqb (s .partial .remaining) 0 && motorsOff (s .motors)) (a .1) in
+    let d = and-yes (eqb (s .partial .remaining) 0) (motorsOff (s .motors)) (b .1) in
+    let m = is-true (motorsOff (s .motors)) (d .1) in
+    record {
+      in-passive = eqb→eq (s .mode) 1 (a .0);
+      none-held = eqb→eq (s .partial .count) 0 (b .0);
+      none-remaining = eqb→eq (s .partial .remaining) 0 (d .0);
+      no-order = stop-right .off-order (s .motors) m;
+      no-duty = stop-right .off-duties (s .motors) m;
+    }
 
 -- by a Start
 start-idle : (s : State) (b : ℕ) (image : List ℕ) (room : ℕ) → T (acceptedOf s) → b ≡ 128 → waits (s .partial) ≡ 0 → Idle (byteOf s b image room .state)
@@ -348,7 +369,7 @@ more-than-510 s m e cs t =
     let x = getD (s .partial .bytes) 1 0 in
     let i : InSong x 510 s = record { in-full = m; song = λ h a. remaining-needed .only-song (s .partial) (accepted-reachable s a) e } in
     let f = song-full x 510 (after s cs) s (readings s cs) (course cs s) i (omega (arith, read-count cs s)) in
-    let p = idle-mode (after s cs) t in
+    let p = idle-tells (after s cs) t .in-passive in
     absurd (omega arith))
     (λ l. l)
     (le-or-lt (length (bytesRead s cs)) 510)
@@ -392,6 +413,7 @@ not-with-510 image buffer = go (idle (after longest (calls128 510 image buffer))
 pub demand-3 : Demand3
 demand-3 =
     record {
+      idle-tells = idle-tells;
       counts-agree = counts-agree;
       cut = cut;
       told = told;

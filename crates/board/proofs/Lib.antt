@@ -4,6 +4,7 @@ pub mod JudgeLaws
 pub mod CallsLaws
 pub mod RunLaws
 pub mod ListsOfCallsLaws
+pub mod RulesProved
 pub mod SameLaws
 pub mod SentLaws
 pub mod Demand1Proved

@@ -95,20 +95,26 @@ performed o n = record { outcome = o; read = n }
 abbrev pub readBy : Outcome → ℕ
 readBy o = cond (eqb (o .number) 8) 0 1
 
+abbrev pub reads : Outcome → Performed
+reads o = performed o (readBy o)
+
+abbrev pub readsNone : Outcome → Performed
+readsNone o = performed o 0
+
 -- after n bytes
 abbrev pub later : ℕ → Performed → Performed
 later n p = performed (p .outcome) (n + p .read)
 
 -- bytes are fed until one gives a number other than 9 or the slice ends
 abbrev pub feed : State → List ℕ → List ℕ → ℕ → Performed
-feed s [] image room = performed (gives 9 s) 0
+feed s [] image room = readsNone (gives 9 s)
 feed s (b ∷ bs) image room =
     let o = byteOf s b image room in
-    cond (eqb (o .number) 9) (later 1 (feed (o .state) bs image room)) (performed o (readBy o))
+    cond (eqb (o .number) 9) (later 1 (feed (o .state) bs image room)) (reads o)
 
 -- a bad record is 8 and 0, also for an empty slice
 unfoldable pub runOf : State → List ℕ → List ℕ → ℕ → Performed
-runOf s bs image room = cond (acceptedOf s) (feed s bs image room) (performed (gives 8 s) 0)
+runOf s bs image room = cond (acceptedOf s) (feed s bs image room) (readsNone (gives 8 s))
 
 -- what comes back
 unfoldable pub ranAs : Performed → Ran
@@ -123,12 +129,6 @@ pub data Call : Type 0 where
   report : (drop cliff charger : Bool) → Call
   tick : (image buffer : List ℕ) → Call
   songEnd : Call
-
-abbrev pub reads : Outcome → Performed
-reads o = performed o (readBy o)
-
-abbrev pub readsNone : Outcome → Performed
-readsNone o = performed o 0
 
 -- by the definitions that the contracts cite
 abbrev pub perform : State → Call → Performed

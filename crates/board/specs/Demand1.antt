@@ -13,7 +13,7 @@ use Rattle.state.specs.State.{withPartial}
 use Rattle.state.specs.Accepted.{acceptedOf}
 use Rattle.state.specs.declared.State.{State}
 use Rattle.board.specs.Outcome.{Outcome, gives, answered, written}
-use Rattle.board.specs.Calls.{performed, Call, byte, run, report, tick, songEnd, perform, bytesOf, bytesIn}
+use Rattle.board.specs.Calls.{Performed, performed, ranAs, Call, byte, run, report, tick, songEnd, perform, bytesOf, bytesIn}
 
 -- the numbers that a call can give
 abbrev pub numbersOf : Call → List ℕ
@@ -42,8 +42,17 @@ leftBy songEnd s = s
 abbrev pub outcome : State → Call → Outcome
 outcome s c = perform s c .outcome
 
+-- what the calls' answers say of an outcome, and the run's of its count
+pub record GivenBack : Type 0 where
+  pub number-back : (o : Outcome) → answered o .number ≡ o .number
+  pub length-back : (o : Outcome) → answered o .length ≡ length (o .answer)
+  pub state-back : (o : Outcome) → answered o .state ≡ o .state
+  pub run-back : (p : Performed) → (ranAs p .number ≡ p .outcome .number) × ((ranAs p .length ≡ length (p .outcome .answer)) × (ranAs p .state ≡ p .outcome .state))
+  pub count-back : (p : Performed) → ranAs p .read ≡ p .read
+
 -- THEOREM: demand 1, for every record, every call and every buffer
 pub record Demand1 : Type 0 where
+  pub given-back : GivenBack
   pub numbers-given : (s : State) (c : Call) → T (among (numbersOf c) (outcome s c .number))
   -- 8 for a record that isn't accepted: record and buffer as they came, and no byte read
   pub bad-eight : (s : State) (c : Call) → acceptedOf s ≡ false → perform s c ≡ performed (gives 8 s) 0

@@ -14,13 +14,14 @@ use Rattle.frame.specs.Cut.{CutInNumbers, CutByTable, CompleteAtLast}
 use Rattle.packet.specs.Sensors.{SizesAgree, SensorsInNumbers}
 use Rattle.command.specs.Layout.{encodeOf}
 use Rattle.command.specs.CommandTable.{commandTable, legalOf, writeReply}
-use Rattle.command.specs.Cases.{rowOpcodes, modeRight, byteCases, byteRight, dataCases, dataRight}
+use Rattle.command.specs.Cases.{rowOpcodes, refusalRight, modeRight, byteCases, byteRight, dataCases, dataRight}
 use Rattle.command.specs.Commands.{messageAt, Sendable}
 use Rattle.command.specs.declared.Message.{Message}
 use Rattle.state.specs.Accepted.{acceptedOf}
 use Rattle.state.specs.declared.State.{State}
 use Rattle.board.specs.Judge.{judgeOf}
 use Rattle.board.specs.Calls.{byteOf, performed, runOf, Call, byte, perform, after, numbers}
+use Rattle.board.specs.Rules.{RulesRight}
 use Rattle.board.specs.Same.{sameState}
 use Rattle.board.specs.EffectTable.{effectTable, rowRight}
 use Rattle.board.specs.Shown.{shownCases, furtherCases, boardPasses, refusesAll, staysPassive, alwaysZero, doesNothing, firstByteOnly, countsSlice, countsLess, rejections, rejects}
@@ -47,8 +48,9 @@ pub record Demand2 : Type 0 where
   pub frame-cases : CutInNumbers
   -- the run table,
   pub run-table : T (all rowRuns runTable)
-  -- the command table: its rows, their modes, legal data,
+  -- the command table: its rows, the opcodes in none of them, their modes, legal data,
   pub command-rows : flatMap (λ r. map (λ e. e .opcode) (r .entries)) commandTable ≡ rowOpcodes
+  pub refusals : T (allFrom refusalRight 0 256)
   pub modes : T (allFrom (λ op. all (modeRight op) (fromTo 0 3)) 0 256)
   pub legal-bytes : T (all byteRight byteCases)
   pub legal-data : T (all dataRight dataCases)
@@ -72,6 +74,8 @@ pub record Demand2 : Type 0 where
   pub named-cases : T (all rejects rejections)
   -- further cases, which no paper marks
   pub further : T (boardPasses perform furtherCases)
+  -- and for every record and every value
+  pub rules : RulesRight
   -- in both tables the records compared are equal
   pub same-equal : (a b : State) → T (sameState a b) → a ≡ b
   pub equal-same : (a b : State) → a ≡ b → T (sameState a b)

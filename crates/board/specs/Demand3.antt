@@ -29,6 +29,9 @@ pub record CountsAgree : Type 0 where
   pub same-bytes : (s : State) (c : Call) → map (λ r. r .byte) (readingsIn s c) ≡ bytesIn s c
   pub same-count : (s : State) (c : Call) → length (readingsIn s c) ≡ perform s c .read
   pub all-bytes : (s : State) (cs : List Call) → map (λ r. r .byte) (readings s cs) ≡ bytesRead s cs
+  -- a byte that is read has the number that its call gives
+  pub byte-number : (s : State) (b : ℕ) (image buffer : List ℕ) → T (acceptedOf s)
+      → map (λ r. outcomeAt r .number) (readingsIn s (byte b image buffer)) ≡ perform s (byte b image buffer) .outcome .number ∷ []
   -- a run counts the bytes up to the first that ends a frame, by the cut alone; all of them, where none does
   pub run-count : (s : State) (bs image buffer : List ℕ) → T (acceptedOf s) → T (allBytes bs)
       → perform s (run bs image buffer) .read ≡ upToTrue (completed (s .partial) bs)
@@ -69,6 +72,14 @@ All128 s cs = T (all (λ b. eqb b 128) (bytesRead s cs))
 abbrev pub longest : State
 longest = withMode full (withPartial (longSong 0 510) powerOn)
 
+-- what idle says
+pub record IdleTells (s : State) : Type 0 where
+  pub in-passive : s .mode ≡ 1
+  pub none-held : s .partial .count ≡ 0
+  pub none-remaining : s .partial .remaining ≡ 0
+  pub no-order : s .motors .order ≡ 0
+  pub no-duty : (i : ℕ) → getD (s .motors .duties) i 0 ≡ 0
+
 -- n calls of a byte 128
 abbrev pub calls128 : ℕ → List ℕ → List ℕ → List Call
 calls128 n image buffer = replicate n (byte 128 image buffer)
@@ -81,6 +92,7 @@ pub record NeedsAll (cs : List Call) : Type 0 where
 
 -- THEOREM: demand 3
 pub record Demand3 : Type 0 where
+  pub idle-tells : (s : State) → T (idle s) → IdleTells s
   pub counts-agree : CountsAgree
   -- the cut never depends on the mode, nor on a refusal: calls that read no byte leave the held frame alone, and bytes of any values are cut as `next` does
   pub cut : (s : State) (cs : List Call) → after s cs .partial ≡ afterOf (s .partial) (bytesRead s cs)

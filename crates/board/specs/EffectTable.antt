@@ -36,7 +36,7 @@ pub record Entry : Type 0 where
   pub stops : Bool
   pub samples : List Sample
 
-pub record Row : Type 0 where
+pub record EffectRow : Type 0 where
   pub modes : List ℕ
   pub entries : List Entry
 
@@ -46,8 +46,8 @@ setting sent f = record { sent = sent; sets = f; answer = [] }
 abbrev nothingSet : List ℕ → Sample
 nothingSet sent = setting sent (λ s. s)
 
-abbrev answering : List ℕ → List ℕ → Sample
-answering sent bytes = record { sent = sent; sets = λ s. s; answer = bytes }
+abbrev answeringWith : List ℕ → List ℕ → Sample
+answeringWith sent bytes = record { sent = sent; sets = λ s. s; answer = bytes }
 
 -- a mode, and no data
 abbrev turns : ℕ → ℕ → Entry
@@ -60,7 +60,7 @@ stopping op samples = record { opcode = op; after = becomes 1; stops = true; sam
 abbrev staying : ℕ → List Sample → Entry
 staying op samples = record { opcode = op; after = kept; stops = false; samples = samples }
 
-abbrev row : List ℕ → List Entry → Row
+abbrev row : List ℕ → List Entry → EffectRow
 row modes es = record { modes = modes; entries = es }
 
 -- a song of n notes
@@ -68,7 +68,7 @@ abbrev pub song : ℕ → List ℕ → Song
 song n notes = record { len = n; notes = padded 32 notes }
 
 -- document 01's rows, in its order. Modes are 0 Off, 1 Passive, 2 Safe, 3 Full; the image's byte at place k is 100 + k.
-abbrev pub effectTable : List Row
+abbrev pub effectTable : List EffectRow
 effectTable =
     row (0 ∷ 1 ∷ 2 ∷ 3 ∷ []) (stopping 128 (nothingSet [] ∷ []) ∷ [])
     ∷ row (1 ∷ 2 ∷ 3 ∷ []) (stopping 129 (setting (0 ∷ []) (withBaud 0) ∷ setting (11 ∷ []) (withBaud 11) ∷ []) ∷ [])
@@ -109,9 +109,9 @@ effectTable =
     ∷ row (2 ∷ 3 ∷ [])
     (staying 144
     (setting (32 ∷ 1 ∷ 127 ∷ []) (withDuties (127 ∷ 1 ∷ 32 ∷ [])) ∷ setting (0 ∷ 128 ∷ 0 ∷ []) (withDuties (0 ∷ 128 ∷ 0 ∷ [])) ∷ []) ∷ [])
-    ∷ row (2 ∷ 3 ∷ []) (staying 139 (setting (8 ∷ 254 ∷ 0 ∷ []) (withLeds (8 ∷ 254 ∷ 0 ∷ [])) ∷ []) ∷ [])
+    ∷ row (2 ∷ 3 ∷ []) (staying 139 (setting (8 ∷ 254 ∷ 0 ∷ []) (withLeds (8 ∷ 254 ∷ 0 ∷ [])) ∷ setting (2 ∷ 7 ∷ 255 ∷ []) (withLeds (2 ∷ 7 ∷ 255 ∷ [])) ∷ []) ∷ [])
     ∷ row (2 ∷ 3 ∷ [])
-    (staying 147 (setting (0 ∷ []) (withOutputs 0) ∷ setting (7 ∷ []) (withOutputs 7) ∷ [])
+    (staying 147 (setting (0 ∷ []) (withOutputs 0) ∷ setting (4 ∷ []) (withOutputs 4) ∷ setting (7 ∷ []) (withOutputs 7) ∷ [])
     ∷ staying 151 (setting (0 ∷ []) (withInfrared 0) ∷ setting (130 ∷ []) (withInfrared 130) ∷ [])
     ∷ [])
     -- the notes past its length are 0
@@ -128,19 +128,19 @@ effectTable =
     -- 36 is the selected song, 37 playing, 38 the list's length
     ∷ row (1 ∷ 2 ∷ 3 ∷ [])
     (staying 142
-    (answering (13 ∷ []) (106 ∷ [])
-    ∷ answering (29 ∷ []) (130 ∷ 131 ∷ [])
-    ∷ answering (36 ∷ []) (3 ∷ [])
-    ∷ answering (37 ∷ []) (0 ∷ [])
-    ∷ answering (38 ∷ []) (2 ∷ [])
-    ∷ answering (0 ∷ []) (span 100 26)
+    (answeringWith (13 ∷ []) (106 ∷ [])
+    ∷ answeringWith (29 ∷ []) (130 ∷ 131 ∷ [])
+    ∷ answeringWith (36 ∷ []) (3 ∷ [])
+    ∷ answeringWith (37 ∷ []) (0 ∷ [])
+    ∷ answeringWith (38 ∷ []) (2 ∷ [])
+    ∷ answeringWith (0 ∷ []) (span 100 26)
     ∷ [])
     ∷ [])
     ∷ row (1 ∷ 2 ∷ 3 ∷ [])
     (staying 149
-    (answering (0 ∷ []) []
-    ∷ answering (3 ∷ 36 ∷ 29 ∷ 38 ∷ []) (3 ∷ 130 ∷ 131 ∷ 2 ∷ [])
-    ∷ answering (16 ∷ replicate 16 2) (flatten (replicate 16 (span 110 6)))
+    (answeringWith (0 ∷ []) []
+    ∷ answeringWith (3 ∷ 36 ∷ 29 ∷ 38 ∷ []) (3 ∷ 130 ∷ 131 ∷ 2 ∷ [])
+    ∷ answeringWith (16 ∷ replicate 16 2) (flatten (replicate 16 (span 110 6)))
     ∷ [])
     ∷ [])
     ∷ row (1 ∷ 2 ∷ 3 ∷ [])
@@ -188,5 +188,5 @@ sampleRight modes e x mode =
     all (λ s. sameOutcome (judged e x s) (expected modes e x mode s)) (telling mode ∷ withStreaming false (telling mode) ∷ [])
 
 -- every sample, in all four modes
-abbrev pub rowRight : Row → Bool
+abbrev pub rowRight : EffectRow → Bool
 rowRight r = all (λ e. all (λ x. all (sampleRight (r .modes) e x) (0 ∷ 1 ∷ 2 ∷ 3 ∷ [])) (e .samples)) (r .entries)

@@ -1,6 +1,7 @@
 pub mod Outcome
 pub mod Judge
 pub mod Calls
+pub mod Rules
 pub mod Same
 pub mod EffectTable
 pub mod Shown

@@ -6,11 +6,11 @@ use mathlib.Core.List.{List, [], _∷_, _++_, map, flatMap}
 use Prim.Native.Nat.{ℕ, _-_}
 use lib.Dec.{eqb}
 use lib.IntN.{ℤ, pos}
-use lib.ListN.{length, take, replicate}
+use lib.ListN.{length, getD, take, replicate}
 use Rattle.wire.specs.Lists.{all, span, padded, sameList}
 use Rattle.wire.specs.Sixteen.{minus}
 use Rattle.frame.specs.Push.{stored}
-use Rattle.state.specs.State.{withMode, withPartial, withWheels, withDuties, withSong, withSelected, withPlaying, withList, withStreaming, toPassive}
+use Rattle.state.specs.State.{withMode, withPartial, withWheels, withDuties, withBaud, withSong, withSelected, withPlaying, withList, withStreaming, toPassive}
 use Rattle.state.specs.declared.State.{State}
 use Rattle.board.specs.Outcome.{gives}
 use Rattle.board.specs.Calls.{Performed, performed, runOf, Call, byte, run, report, tick, songEnd, perform}
@@ -154,7 +154,7 @@ byteCases =
     -- W9
     ∷ feeding (ready 1) (140 giving 9 ∷ 0 giving 9 ∷ 255 giving 9 ∷ []) (withPartial (stored (140 ∷ 0 ∷ 255 ∷ []) 510) (ready 1))
     -- W10
-    ∷ refusing (ready 1) (149 giving 9 ∷ 0 giving 0 ∷ [])
+    ∷ answering (ready 1) 0 (149 giving 9 ∷ 0 giving 0 ∷ []) []
     -- W11
     ∷ answering (ready 1) 51 (142 giving 9 ∷ 6 giving 7 ∷ []) []
     ∷ answering (ready 1) 52 (142 giving 9 ∷ 6 giving 0 ∷ []) w11Bytes
@@ -204,12 +204,22 @@ driving velocity radius = withWheels 1 velocity radius (telling 2)
 abbrev directing : ℤ → ℤ → State
 directing right left = withWheels 2 right left (telling 2)
 
+-- song 0 plays; song 15 does
+abbrev playing : State
+playing = withPlaying true (withSelected 0 (ready 3))
+
+abbrev singing : State → State
+singing s = withPlaying true (withSelected 15 s)
+
 abbrev reportCases : List Row
 reportCases =
     -- wheel drop, or charger, alone; neither
     stops (reporting true false false) (telling 2)
     ∷ stops (reporting false false true) (telling 2)
     ∷ stops (reporting true false false) (stopped (ready 2))
+    -- both, while a song plays and streaming is off
+    ∷ stops (reporting true false true) (singing (telling 2))
+    ∷ stops (reporting true true true) (withStreaming false (telling 2))
     ∷ ignores (reporting false false false) (telling 2)
     -- velocity below 0, and the radius
     ∷ stops ofCliff (driving (minus 100) (pos 164))
@@ -217,6 +227,7 @@ reportCases =
     ∷ stops ofCliff (driving (minus 100) (minus 164))
     ∷ ignores ofCliff (driving (minus 100) (minus 165))
     ∷ ignores ofCliff (driving (minus 100) (minus 32768))
+    ∷ ignores ofCliff (driving (minus 100) (pos 32767))
     ∷ stops ofCliff (driving (minus 1) (pos 1))
     -- velocity 0, and above
     ∷ ignores ofCliff (driving (pos 0) (pos 1))
@@ -225,6 +236,7 @@ reportCases =
     -- right and left
     ∷ stops ofCliff (directing (pos 0) (pos 1))
     ∷ stops ofCliff (directing (pos 1) (minus 500))
+    ∷ stops ofCliff (directing (pos 1) (pos 1))
     ∷ ignores ofCliff (directing (pos 0) (pos 0))
     ∷ ignores ofCliff (directing (minus 1) (minus 1))
     -- no order, with numbers and duties
@@ -233,11 +245,30 @@ reportCases =
     ∷ ignores (reporting true true true) (telling 3)
     ∷ ignores (reporting true true true) (telling 1)
     ∷ ignores (reporting true true true) (telling 0)
+    ∷ ignores (reporting false false true) (telling 3)
+    ∷ ignores (reporting true false false) (telling 0)
     ∷ []
 
--- song 0 plays
-abbrev playing : State
-playing = withPlaying true (withSelected 0 (ready 3))
+-- data that are not legal, in Safe
+abbrev illegalCases : List ByteCase
+illegalCases =
+    map (λ bs. refusing (ready 2) (waiting (take (length bs - 1) bs) (getD bs (length bs - 1) 0 giving 4)))
+    ((129 ∷ 12 ∷ [])
+    ∷ (137 ∷ 1 ∷ 245 ∷ 0 ∷ 1 ∷ [])
+    ∷ (137 ∷ 0 ∷ 100 ∷ 0 ∷ 0 ∷ [])
+    ∷ (137 ∷ 0 ∷ 100 ∷ 7 ∷ 209 ∷ [])
+    ∷ (145 ∷ 0 ∷ 0 ∷ 1 ∷ 245 ∷ [])
+    ∷ (138 ∷ 8 ∷ [])
+    ∷ (144 ∷ 129 ∷ 0 ∷ 0 ∷ [])
+    ∷ (144 ∷ 0 ∷ 129 ∷ 0 ∷ [])
+    ∷ (144 ∷ 0 ∷ 0 ∷ 129 ∷ [])
+    ∷ (147 ∷ 8 ∷ [])
+    ∷ (140 ∷ 16 ∷ 1 ∷ 60 ∷ 32 ∷ [])
+    ∷ (141 ∷ 16 ∷ [])
+    ∷ (149 ∷ 2 ∷ 6 ∷ 43 ∷ [])
+    ∷ (148 ∷ 1 ∷ 43 ∷ [])
+    ∷ (150 ∷ 2 ∷ [])
+    ∷ [])
 
 abbrev judgedCases : List ByteCase
 judgedCases =
@@ -246,6 +277,11 @@ judgedCases =
     ∷ refusing playing (141 giving 9 ∷ 15 giving 6 ∷ [])
     ∷ refusing playing (141 giving 9 ∷ 0 giving 6 ∷ [])
     ∷ refusing playing (141 giving 9 ∷ 1 giving 5 ∷ [])
+    -- the mode, and the data, are asked before the song and the room
+    ∷ refusing (ready 1) (141 giving 9 ∷ 1 giving 3 ∷ [])
+    ∷ refusing (singing (ready 1)) (141 giving 9 ∷ 0 giving 3 ∷ [])
+    ∷ refusing (ready 0) (142 giving 9 ∷ 6 giving 3 ∷ [])
+    ∷ refusing (singing (ready 3)) (141 giving 9 ∷ 16 giving 4 ∷ [])
     -- unknown, and not offered, in Off too
     ∷ refusing (ready 0) (146 giving 1 ∷ [])
     ∷ refusing (ready 3) (0 giving 1 ∷ [])
@@ -254,18 +290,27 @@ judgedCases =
     ∷ refusing (ready 3) (waiting (152 ∷ 2 ∷ 128 ∷ []) (128 giving 2))
     ∷ refusing (ready 0) (153 giving 2 ∷ [])
     ∷ refusing (ready 1) (158 giving 9 ∷ 128 giving 2 ∷ [])
-    -- the mode is asked before the data, and those before the room
+    ∷ refusing (ready 1) (200 giving 1 ∷ [])
+    ∷ refusing (ready 2) (155 giving 9 ∷ 0 giving 2 ∷ [])
+    -- the mode is asked before the data
     ∷ refusing (ready 1) (waiting (137 ∷ 127 ∷ 255 ∷ 0 ∷ []) (0 giving 3))
     ∷ refusing (ready 1) (142 giving 9 ∷ 43 giving 4 ∷ [])
-    -- duties of 128 and 129; all three drivers
+    -- no room for a list
+    ∷ answering (ready 1) 3 (waiting (149 ∷ 2 ∷ 29 ∷ []) (29 giving 7)) []
+    -- duties of 128; all three drivers
     ∷ feeding (ready 2) (waiting (144 ∷ 128 ∷ 0 ∷ []) (128 giving 0)) (withDuties (128 ∷ 0 ∷ 128 ∷ []) (ready 2))
-    ∷ refusing (ready 2) (waiting (144 ∷ 129 ∷ 0 ∷ []) (0 giving 4))
     ∷ feeding (ready 2) (138 giving 9 ∷ 7 giving 0 ∷ []) (withDuties (128 ∷ 128 ∷ 128 ∷ []) (ready 2))
     -- a count beyond its limit is swallowed in full
     ∷ refusing (ready 1) (waiting (149 ∷ 17 ∷ replicate 16 128) (128 giving 4))
     ∷ refusing (ready 3) (waiting (140 ∷ 0 ∷ 17 ∷ replicate 33 128) (128 giving 4))
-    -- a song is replaced while it plays
+    -- a song is replaced while it plays, and while another does; no other command stops it
     ∷ feeding playing (waiting (140 ∷ 0 ∷ 1 ∷ 60 ∷ []) (32 giving 0)) (withSong 0 (song 1 (60 ∷ 32 ∷ [])) playing)
+    ∷ feeding (singing (ready 1)) (waiting (140 ∷ 3 ∷ 1 ∷ 60 ∷ []) (32 giving 0)) (withSong 3 (song 1 (60 ∷ 32 ∷ [])) (singing (ready 1)))
+    ∷ feeding (singing (ready 2)) (128 giving 0 ∷ []) (halted (singing (ready 2)))
+    ∷ feeding (singing (ready 2)) (132 giving 0 ∷ []) (withMode 3 (singing (ready 2)))
+    -- 150 1 with an empty list; a Direct kept by 131
+    ∷ feeding (withStreaming false (withList 0 (replicate 16 0) (ready 1))) (150 giving 9 ∷ 1 giving 0 ∷ []) (withList 0 (replicate 16 0) (ready 1))
+    ∷ feeding (withWheels 2 (pos 9) (minus 9) (ready 3)) (131 giving 0 ∷ []) (withMode 2 (withWheels 2 (pos 9) (minus 9) (ready 3)))
     -- packets 35 to 42: of a Drive, of a Direct, and of no order, whatever its numbers
     ∷ answering (withWheels 1 (minus 200) (pos 500) (ready 2)) 12 (142 giving 9 ∷ 5 giving 0 ∷ [])
     (2 ∷ 3 ∷ 0 ∷ 2 ∷ 255 ∷ 56 ∷ 1 ∷ 244 ∷ 0 ∷ 0 ∷ 0 ∷ 0 ∷ [])
@@ -320,14 +365,25 @@ otherCases =
     ∷ from paused (ticking 258 0 [] ∷ []) paused
     ∷ ignores (ticking 258 0 []) (withList 0 (replicate 16 0) (ready 3))
     ∷ ignores (ticking 7 7 []) (ready 1)
+    -- nothing to write needs no room; 3 comes before 7; in Full, while a song plays; three ids
+    ∷ ignores (ticking 0 0 []) paused
+    ∷ ignores (ticking 0 3 []) (telling 0)
+    ∷ ignores (ticking 0 7 []) (ready 3)
+    ∷ ignores (ticking 8 0 w13Chunk) (singing (ready 3))
+    ∷ ignores (ticking 258 0 (19 ∷ 7 ∷ 29 ∷ 2 ∷ 25 ∷ 13 ∷ 0 ∷ 36 ∷ 3 ∷ 141 ∷ [])) (withList 3 (padded 16 (29 ∷ 13 ∷ 36 ∷ [])) (ready 3))
     ∷ ignores (ticking 258 0 (19 ∷ 5 ∷ 35 ∷ 2 ∷ 39 ∷ 0 ∷ 200 ∷ 231 ∷ [])) (withList 2 (padded 16 (35 ∷ 39 ∷ [])) (telling 2))
     -- a song end only clears playing
     ∷ from (withPlaying true (withSelected 0 (telling 3))) (plain songEnd 0 ∷ []) (withSelected 0 (telling 3))
+    ∷ from (singing (telling 1)) (plain songEnd 0 ∷ []) (withSelected 15 (telling 1))
+    ∷ from (singing (telling 0)) (plain songEnd 0 ∷ []) (withSelected 15 (telling 0))
     ∷ ignores (plain songEnd 0) (telling 2)
+    -- a run ends a frame that another began: its effect, and its answer
+    ∷ from (ready 2) (running (129 ∷ []) 9 1 ∷ running (3 ∷ 128 ∷ []) 0 1 ∷ []) (withBaud 3 (halted (ready 2)))
+    ∷ from (ready 2) (running (142 ∷ []) 9 1 ∷ step (run (29 ∷ 128 ∷ []) sampleImage (replicate 2 255)) 0 1 (130 ∷ 131 ∷ []) ∷ []) (ready 2)
     ∷ []
 
 abbrev pub furtherCases : List Row
-furtherCases = flatMap expanded judgedCases ++ (reportCases ++ (map refusesBad badRecords ++ otherCases))
+furtherCases = flatMap expanded (illegalCases ++ judgedCases) ++ (reportCases ++ (map refusesBad badRecords ++ otherCases))
 
 -- ---- the test
 
@@ -349,8 +405,9 @@ refusesAll s c = performed (gives 4 s) (perform s c .read)
 abbrev pub staysPassive : Board
 staysPassive s c = let p = perform s c in leaving (toPassive (p .outcome .state)) p
 
+-- a byte that waits gives 9
 abbrev pub alwaysZero : Board
-alwaysZero s c = numbered 0 (perform s c)
+alwaysZero s c = let p = perform s c in cond (eqb (p .outcome .number) 9) p (numbered 0 p)
 
 abbrev pub doesNothing : Board
 doesNothing s c = let p = perform s c in performed (gives (p .outcome .number) s) (p .read)

@@ -1,0 +1,151 @@
+-- The rules, for every record and every value.
+-- Assumes nothing.
+use mathlib.Core.Path.{_≡_, refl}
+use mathlib.Core.Bool.{Bool, true, false, _&&_, and-false}
+use mathlib.Core.List.{List, [], _∷_}
+use Prim.Native.Nat.{ℕ}
+use lib.Dec.{T, leb, eqb, leb·zero}
+use lib.IntN.{pos}
+use lib.Signed.{ltZ}
+use lib.ListN.{length, take}
+use borrow.Author.Tests.{le-leb, lt-leb, eq-eqb, ne-eqb}
+use Rattle.wire.specs.Sixteen.{minus}
+use Rattle.wire.proofs.BoolLaws.{is-true, pos-eqb, or-none, cond-not}
+use Rattle.packet.specs.Packets.{answerBytes}
+use Rattle.command.specs.Layout.{refusalOf}
+use Rattle.command.specs.declared.Command.{Command}
+use Rattle.command.specs.declared.Command.the-variants as cmd
+use Rattle.state.specs.State.{songAt, withPlaying, toPassive}
+use Rattle.state.specs.Accepted.{acceptedOf}
+use Rattle.state.specs.declared.State.{State}
+use Rattle.board.specs.Outcome.{gives}
+use Rattle.board.specs.Judge.{nothing, statusOf, effectOf, judgeOf}
+use Rattle.board.specs.Calls.{fedOf, byteOf, intoCliff, reportOf, chunkNow, songEndOf, runOf}
+use Rattle.board.specs.Rules.{Does, EffectColumn, NumberColumn, FittedRight, StatusRight, ByteRight, RunRight, ReportRight, TickRight, RulesRight}
+use Rattle.board.proofs.JudgeLaws.{judge-mode, judge-data}
+use Rattle.board.proofs.CallsLaws.{byte-eight, byte-accepted, tick-off, tick-silent, tick-chunk}
+
+-- ---- commands
+
+-- one that needs nothing
+does : (c : Command) (p : List ℕ) → refusalOf c ≡ 0 → effectOf c p .needs ≡ nothing → Does c p (effectOf c p .sets)
+unfolding judgeOf
+does c p r n s image room a l = rw (r, a, l, n, leb·zero room) refl
+
+effect-column : (p : List ℕ) → EffectColumn p
+effect-column p =
+    record {
+      start = does cmd.Start p refl refl;
+      baud = λ code. does (cmd.Baud code) p refl refl;
+      control = does cmd.Control p refl refl;
+      safe = does cmd.Safe p refl refl;
+      full = does cmd.Full p refl refl;
+      power = does cmd.Power p refl refl;
+      demo = does cmd.Demo p refl refl;
+      spot = does cmd.Spot p refl refl;
+      cover = does cmd.Cover p refl refl;
+      dock = does cmd.Dock p refl refl;
+      drive = λ v r. does (cmd.Drive v r) p refl refl;
+      direct = λ v w. does (cmd.Direct v w) p refl refl;
+      drivers = λ bits. does (cmd.Drivers bits) p refl refl;
+      duties = λ a b d. does (cmd.Duties a b d) p refl refl;
+      leds = λ a b d. does (cmd.Leds a b d) p refl refl;
+      outputs = λ bits. does (cmd.Outputs bits) p refl refl;
+      infrared = λ code. does (cmd.Infrared code) p refl refl;
+      song = λ number notes. does (cmd.Song number notes) p refl refl;
+      stream = λ ids. does (cmd.Stream ids) p refl refl;
+      pause-off = does (cmd.Pause 0) p refl refl;
+      pause-on = does (cmd.Pause 1) p refl refl;
+    }
+
+number-column : (s : State) (image : List ℕ) (room : ℕ) → NumberColumn s image room
+unfolding judgeOf
+number-column s image room =
+    record {
+      unknown = λ m e. rw e refl;
+      not-offered = λ m e. rw e refl;
+      wrong-mode = λ m e a. judge-mode s m image room e a;
+      not-legal = λ m e a l. judge-data s m image room e a l;
+      no-song = λ n p j e. rw (j .0, j .1, e) refl;
+      busy = λ n p j h e. rw (j .0, j .1, pos-eqb (songAt (s .songs) n .len) h, e) refl;
+      play = λ n p j h e. rw (j .0, j .1, pos-eqb (songAt (s .songs) n .len) h, e, leb·zero room) refl;
+      sensors = λ id p j. rw (j .0, j .1) (cond-not (leb (length (answerBytes (statusOf s) image (id ∷ []))) room) _ _);
+      query = λ n p j. rw (j .0, j .1) (cond-not (leb (length (answerBytes (statusOf s) image (take n p))) room) _ _);
+    }
+
+fitted-right : (bytes : List ℕ) (room : ℕ) (s : State) → FittedRight bytes room s
+fitted-right bytes room s = record { enough = λ h. rw (le-leb (length bytes) room h) refl; no-room = λ h. rw (lt-leb (length bytes) room h) refl }
+
+-- ---- packets 35 to 42
+
+status-right : (s : State) → StatusRight s
+unfolding statusOf
+status-right s = record { of-drive = λ e. simp e; of-direct = λ e. simp e; of-none = λ e. simp e }
+
+-- ---- calls on an accepted record
+
+module _ (s : State) (t : T (acceptedOf s)) where
+  accepted : acceptedOf s ≡ true
+  accepted = is-true (acceptedOf s) t
+
+  byte-right : (b : ℕ) (image : List ℕ) (room : ℕ) → ByteRight s b image room
+  unfolding byteOf fedOf
+  byte-right b image room = record { waits = λ e. simp (accepted, e); judged = λ e. simp (accepted, e) }
+
+  run-right : (image : List ℕ) (room : ℕ) → RunRight s image room
+  unfolding runOf
+  run-right image room =
+      record {
+        none = simp accepted;
+        more = λ b bs h n.
+            simp (accepted, eq-eqb (byteOf s b image room .number) 9 n, is-true (acceptedOf (byteOf s b image room .state)) (byte-accepted s b image room t h));
+        last = λ b bs n. simp (accepted, ne-eqb (byteOf s b image room .number) 9 n, ne-eqb (byteOf s b image room .number) 8 (byte-eight s b image room t));
+      }
+
+  charger-set : (drop cliff : Bool) → s .mode ≡ 2 → reportOf s drop cliff true ≡ gives 0 (toPassive s)
+  unfolding reportOf
+  charger-set true cliff e = simp (accepted, e)
+  charger-set false cliff e = simp (accepted, e)
+
+  report-right : ReportRight s
+  unfolding reportOf intoCliff
+  report-right =
+      let v = s .motors .first in
+      let r = s .motors .second in
+      record {
+        not-safe = λ drop cliff charger n. simp (accepted, ne-eqb (s .mode) 2 n);
+        drop-set = λ cliff charger e. simp (accepted, e);
+        charger-set = charger-set;
+        none-set = simp (accepted, and-false (eqb (s .mode) 2));
+        cliff-drive = λ e o. simp (accepted, e, o, or-none (ltZ v (pos 0) && (ltZ (minus 165) r && ltZ r (pos 165))));
+        cliff-direct = λ e o. simp (accepted, e, o);
+        cliff-none = λ o. simp (accepted, o, and-false (eqb (s .mode) 2));
+      }
+
+  tick-right : (image : List ℕ) (room : ℕ) → TickRight s image room
+  unfolding chunkNow
+  tick-right image room =
+      record {
+        in-off = tick-off s image room t;
+        streaming-off = λ n e. tick-silent s image room t n (simp e);
+        no-list = λ n e. tick-silent s image room t n (simp (e, and-false (s .stream .on)));
+        chunk = λ n e h. tick-chunk s image room t n (simp (e, pos-eqb (s .stream .count) h));
+      }
+
+  song-end-right : songEndOf s ≡ gives 0 (withPlaying false s)
+  unfolding songEndOf
+  song-end-right = simp accepted
+
+pub rules-right : RulesRight
+rules-right =
+    record {
+      effect-column = effect-column;
+      number-column = number-column;
+      fitted-right = fitted-right;
+      status-right = status-right;
+      byte-right = byte-right;
+      run-right = run-right;
+      report-right = report-right;
+      tick-right = tick-right;
+      song-end-right = song-end-right;
+    }

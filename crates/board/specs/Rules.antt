@@ -1,0 +1,164 @@
+-- The rules for every record and every value, in document 01's words: each case of a call beside what it gives. They cite the columns of modes and legal data, the packets
+-- and the setters, and none of this crate's own tests. The tables of cases stand at chosen values, and a rule that is wrong between them would pass those.
+-- Assumes nothing.
+use mathlib.Core.Path.{_≡_}
+use mathlib.Core.Bool.{Bool, true, false, cond, _&&_, _||_}
+use mathlib.Core.List.{List, [], _∷_}
+use Prim.Native.Nat.{ℕ, _+_, _/_, _%_, _≤_, _<_}
+use lib.Dec.{T, eqb}
+use lib.IntN.{ℤ, pos}
+use lib.Signed.{ltZ}
+use lib.ListN.{length, take}
+use Rattle.wire.specs.Sixteen.{minus}
+use Rattle.frame.specs.Push.{pushOf, emptyPartial}
+use Rattle.packet.specs.Packets.{answerBytes, chunkBytes}
+use Rattle.packet.specs.declared.Status.{Status}
+use Rattle.command.specs.Layout.{refusalOf, decodeOf}
+use Rattle.command.specs.CommandTable.{allowedOf, legalOf}
+use Rattle.command.specs.Commands.{message}
+use Rattle.command.specs.declared.Command.{Command}
+use Rattle.command.specs.declared.Command.the-variants as cmd
+use Rattle.command.specs.declared.Message.{Message}
+use Rattle.state.specs.State.{songAt, withMode, withPartial, withWheels, withDuties, withBaud, withLeds, withOutputs, withInfrared, withSong, withSelected, withPlaying, withList, withStreaming, toPassive}
+use Rattle.state.specs.Accepted.{acceptedOf}
+use Rattle.state.specs.declared.State.{State}
+use Rattle.board.specs.Outcome.{gives, answers, fitted}
+use Rattle.board.specs.Judge.{statusOf, judgeOf}
+use Rattle.board.specs.Calls.{byteOf, reportOf, tickOf, songEndOf, performed, runOf}
+
+-- ---- commands
+
+-- in each of its modes, with legal data, it gives 0 with this record and no answer, whatever the image and the room
+abbrev pub Does : Command → List ℕ → (State → State) → Type 0
+Does c p f =
+    (s : State) (image : List ℕ) (room : ℕ) → allowedOf c (s .mode) ≡ true → legalOf (message c p) ≡ true
+    → judgeOf s (message c p) image room ≡ gives 0 (f s)
+
+-- bit i set: 128, else 0; n is the bits from i on
+abbrev pub dutyFrom : ℕ → ℕ
+dutyFrom n = cond (eqb (n % 2) 1) 128 0
+
+-- THEOREM: the column of effects, in document 01's order; 141, 142 and 149 are below
+pub record EffectColumn (p : List ℕ) : Type 0 where
+  pub start : Does cmd.Start p toPassive
+  pub baud : (code : ℕ) → Does (cmd.Baud code) p (λ s. toPassive (withBaud code s))
+  pub control : Does cmd.Control p (withMode 2)
+  pub safe : Does cmd.Safe p (withMode 2)
+  pub full : Does cmd.Full p (withMode 3)
+  pub power : Does cmd.Power p toPassive
+  pub demo : Does cmd.Demo p toPassive
+  pub spot : Does cmd.Spot p toPassive
+  pub cover : Does cmd.Cover p toPassive
+  pub dock : Does cmd.Dock p toPassive
+  pub drive : (velocity radius : ℤ) → Does (cmd.Drive velocity radius) p (withWheels 1 velocity radius)
+  pub direct : (right left : ℤ) → Does (cmd.Direct right left) p (withWheels 2 right left)
+  pub drivers : (bits : ℕ) → Does (cmd.Drivers bits) p (withDuties (dutyFrom (bits / 1) ∷ dutyFrom (bits / 2) ∷ dutyFrom (bits / 4) ∷ []))
+  pub duties : (driver2 driver1 driver0 : ℕ) → Does (cmd.Duties driver2 driver1 driver0) p (withDuties (driver0 ∷ driver1 ∷ driver2 ∷ []))
+  pub leds : (bits color intensity : ℕ) → Does (cmd.Leds bits color intensity) p (withLeds (bits ∷ color ∷ intensity ∷ []))
+  pub outputs : (bits : ℕ) → Does (cmd.Outputs bits) p (withOutputs bits)
+  pub infrared : (code : ℕ) → Does (cmd.Infrared code) p (withInfrared code)
+  pub song : (number notes : ℕ) → Does (cmd.Song number notes) p (withSong number (record { len = notes; notes = p }))
+  pub stream : (ids : ℕ) → Does (cmd.Stream ids) p (λ s. withStreaming true (withList ids (take 16 p) s))
+  pub pause-off : Does (cmd.Pause 0) p (withStreaming false)
+  pub pause-on : Does (cmd.Pause 1) p (withStreaming true)
+
+-- a command in one of its modes, with legal data
+abbrev pub Judged : State → Command → List ℕ → Type 0
+Judged s c p = (allowedOf c (s .mode) ≡ true) × (legalOf (message c p) ≡ true)
+
+-- THEOREM: the numbers 1 to 7, each in its case, in their order; and what 141, 142 and 149 do
+pub record NumberColumn (s : State) (image : List ℕ) (room : ℕ) : Type 0 where
+  pub unknown : (m : Message) → refusalOf (m .command) ≡ 1 → judgeOf s m image room ≡ gives 1 s
+  pub not-offered : (m : Message) → refusalOf (m .command) ≡ 2 → judgeOf s m image room ≡ gives 2 s
+  pub wrong-mode : (m : Message) → refusalOf (m .command) ≡ 0 → allowedOf (m .command) (s .mode) ≡ false → judgeOf s m image room ≡ gives 3 s
+  pub not-legal : (m : Message) → refusalOf (m .command) ≡ 0 → allowedOf (m .command) (s .mode) ≡ true → legalOf m ≡ false
+      → judgeOf s m image room ≡ gives 4 s
+  pub no-song : (n : ℕ) (p : List ℕ) → Judged s (cmd.Play n) p → songAt (s .songs) n .len ≡ 0 → judgeOf s (message (cmd.Play n) p) image room ≡ gives 5 s
+  pub busy : (n : ℕ) (p : List ℕ) → Judged s (cmd.Play n) p → 0 < songAt (s .songs) n .len → s .songs .playing ≡ true
+      → judgeOf s (message (cmd.Play n) p) image room ≡ gives 6 s
+  pub play : (n : ℕ) (p : List ℕ) → Judged s (cmd.Play n) p → 0 < songAt (s .songs) n .len → s .songs .playing ≡ false
+      → judgeOf s (message (cmd.Play n) p) image room ≡ gives 0 (withPlaying true (withSelected n s))
+  -- the packets, or 7
+  pub sensors : (id : ℕ) (p : List ℕ) → Judged s (cmd.Sensors id) p
+      → judgeOf s (message (cmd.Sensors id) p) image room ≡ fitted (answerBytes (statusOf s) image (id ∷ [])) room s
+  pub query : (n : ℕ) (p : List ℕ) → Judged s (cmd.QueryList n) p
+      → judgeOf s (message (cmd.QueryList n) p) image room ≡ fitted (answerBytes (statusOf s) image (take n p)) room s
+
+-- THEOREM: an answer and its room
+pub record FittedRight (bytes : List ℕ) (room : ℕ) (s : State) : Type 0 where
+  pub enough : length bytes ≤ room → fitted bytes room s ≡ answers bytes s
+  pub no-room : room < length bytes → fitted bytes room s ≡ gives 7 s
+
+-- ---- packets 35 to 42
+
+-- a record's, with these numbers for 39 to 42
+abbrev pub statusWith : State → ℤ → ℤ → ℤ → ℤ → Status
+statusWith s velocity radius right left =
+    record {
+      mode = s .mode;
+      selected = s .songs .selected;
+      playing = s .songs .playing;
+      listed = s .stream .count;
+      velocity = velocity;
+      radius = radius;
+      right = right;
+      left = left;
+    }
+
+-- THEOREM: what they tell, by the kind of wheel order
+pub record StatusRight (s : State) : Type 0 where
+  pub of-drive : s .motors .order ≡ 1 → statusOf s ≡ statusWith s (s .motors .first) (s .motors .second) (pos 0) (pos 0)
+  pub of-direct : s .motors .order ≡ 2 → statusOf s ≡ statusWith s (pos 0) (pos 0) (s .motors .first) (s .motors .second)
+  pub of-none : s .motors .order ≡ 0 → statusOf s ≡ statusWith s (pos 0) (pos 0) (pos 0) (pos 0)
+
+-- ---- calls on an accepted record
+
+-- THEOREM: a byte
+pub record ByteRight (s : State) (b : ℕ) (image : List ℕ) (room : ℕ) : Type 0 where
+  pub waits : pushOf (s .partial) b .complete ≡ false → byteOf s b image room ≡ gives 9 (withPartial (pushOf (s .partial) b .partial) s)
+  pub judged : pushOf (s .partial) b .complete ≡ true
+      → byteOf s b image room ≡ judgeOf (withPartial emptyPartial s) (decodeOf (pushOf (s .partial) b .partial .bytes)) image room
+
+-- THEOREM: a run: no bytes; a first one that gives 9, and then the rest; and one that gives another number
+pub record RunRight (s : State) (image : List ℕ) (room : ℕ) : Type 0 where
+  pub none : runOf s [] image room ≡ performed (gives 9 s) 0
+  pub more : (b : ℕ) (bs : List ℕ) → b < 256 → byteOf s b image room .number ≡ 9
+      → let rest = runOf (byteOf s b image room .state) bs image room in
+      runOf s (b ∷ bs) image room ≡ performed (rest .outcome) (1 + rest .read)
+  pub last : (b : ℕ) (bs : List ℕ) → (byteOf s b image room .number ≡ 9 → ⊥) → runOf s (b ∷ bs) image room ≡ performed (byteOf s b image room) 1
+
+-- THEOREM: a safety report
+pub record ReportRight (s : State) : Type 0 where
+  pub not-safe : (drop cliff charger : Bool) → (s .mode ≡ 2 → ⊥) → reportOf s drop cliff charger ≡ gives 0 s
+  pub drop-set : (cliff charger : Bool) → s .mode ≡ 2 → reportOf s true cliff charger ≡ gives 0 (toPassive s)
+  pub charger-set : (drop cliff : Bool) → s .mode ≡ 2 → reportOf s drop cliff true ≡ gives 0 (toPassive s)
+  pub none-set : reportOf s false false false ≡ gives 0 s
+  -- cliff alone, by the wheel order
+  pub cliff-drive : s .mode ≡ 2 → s .motors .order ≡ 1
+      → let v = s .motors .first in
+      let r = s .motors .second in
+      reportOf s false true false ≡ gives 0 (cond (ltZ (pos 0) v || (ltZ v (pos 0) && (ltZ (minus 165) r && ltZ r (pos 165)))) (toPassive s) s)
+  pub cliff-direct : s .mode ≡ 2 → s .motors .order ≡ 2
+      → reportOf s false true false ≡ gives 0 (cond (ltZ (pos 0) (s .motors .first) || ltZ (pos 0) (s .motors .second)) (toPassive s) s)
+  pub cliff-none : s .motors .order ≡ 0 → reportOf s false true false ≡ gives 0 s
+
+-- THEOREM: a tick
+pub record TickRight (s : State) (image : List ℕ) (room : ℕ) : Type 0 where
+  pub in-off : s .mode ≡ 0 → tickOf s image room ≡ gives 3 s
+  pub streaming-off : (s .mode ≡ 0 → ⊥) → s .stream .on ≡ false → tickOf s image room ≡ gives 0 s
+  pub no-list : (s .mode ≡ 0 → ⊥) → s .stream .count ≡ 0 → tickOf s image room ≡ gives 0 s
+  pub chunk : (s .mode ≡ 0 → ⊥) → s .stream .on ≡ true → 0 < s .stream .count
+      → tickOf s image room ≡ fitted (chunkBytes (statusOf s) image (take (s .stream .count) (s .stream .ids))) room s
+
+-- THEOREM: the rules
+pub record RulesRight : Type 0 where
+  pub effect-column : (p : List ℕ) → EffectColumn p
+  pub number-column : (s : State) (image : List ℕ) (room : ℕ) → NumberColumn s image room
+  pub fitted-right : (bytes : List ℕ) (room : ℕ) (s : State) → FittedRight bytes room s
+  pub status-right : (s : State) → StatusRight s
+  pub byte-right : (s : State) → T (acceptedOf s) → (b : ℕ) (image : List ℕ) (room : ℕ) → ByteRight s b image room
+  pub run-right : (s : State) → T (acceptedOf s) → (image : List ℕ) (room : ℕ) → RunRight s image room
+  pub report-right : (s : State) → T (acceptedOf s) → ReportRight s
+  pub tick-right : (s : State) → T (acceptedOf s) → (image : List ℕ) (room : ℕ) → TickRight s image room
+  -- a song end only clears playing
+  pub song-end-right : (s : State) → T (acceptedOf s) → songEndOf s ≡ gives 0 (withPlaying false s)
