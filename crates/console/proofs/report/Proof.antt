@@ -1,0 +1,37 @@
+-- `console::report` is safe and ends: the turns that are left.
+-- Assumes nothing.
+use Prim.Native.Nat.{_-_}
+use lib.ListN.{length}
+use borrow.Author.Needs.{needs}
+use Rattle.console.proofs.report.Statement.{statement}
+use Rattle.console.proofs.report.Tie as tie
+
+abbrev Inv-loop : tie.InvT-loop
+Inv-loop session text from flags₀ at₀ turns₀ t10 flags at turns = Unit {0}
+
+abbrev μ-loop : tie.MeasureT-loop
+μ-loop session text from flags₀ at₀ turns₀ t10 flags at turns = turns
+
+pub report-spec : {M : Type 1} → statement M
+report-spec =
+    tie.close
+    (tie.spec
+    Inv-loop
+    μ-loop
+    (λ c. search needs)
+    (λ c κs. search needs)
+    (λ c. search needs)
+    (λ c. search needs)
+    (λ c. search needs)
+    (λ c κs. search needs)
+    (λ c. search needs)
+    (λ c. search needs)
+    (λ c. search needs)
+    (λ c. search needs)
+    (λ c κs. search needs)
+    (λ c. search needs)
+    (λ c. search needs)
+    (λ c. search needs)
+    (λ c. search needs)
+    (λ c κs. search needs)
+    (λ c. search needs))

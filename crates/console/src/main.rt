@@ -1,0 +1,359 @@
+// A board that a person can try. It reads lines from standard input, gives what they say to the board, and writes what comes back: one line for each call,
+// and one for a changed record. A bad line gets a message with its line and place, and stops nothing.
+mod calls;
+mod compare;
+mod names;
+mod show;
+mod words;
+
+ghost use Prim.Native.Nat.{_≤_};
+ghost use lib.ListN.{length};
+use calls::Session;
+use line::Number;
+use show::say;
+use show::say_size;
+use show::within;
+use words::say_text;
+use words::say_where;
+
+// The most bytes of a line that are read.
+const LONGEST: usize = 1024;
+
+const MOST_ROOM: usize = 1024;
+
+// A line of which some bytes are there: their number, and whether some did not fit.
+struct Held {
+    size: usize,
+    cut: bool,
+}
+
+// What a block leaves.
+struct Taken {
+    session: Session,
+    held: Held,
+}
+
+fn say_help() {
+    say(
+        b"numbers 0 to 255            bytes, given to the board one at a time\n\
+          run N N ..                  one run over these bytes\n\
+          report drop cliff charger   a safety report with any of the three words\n\
+          tick, song-end              those calls\n\
+          power-on                    the record as at power-on\n\
+          room N                      the lent buffer's length, 0 to 1024\n\
+          image N ..                  the 40 bytes of the sensor image\n\
+          state, help                 the record in one line, and this\n",
+    );
+    say(
+        b"A command by name is written as a host would, and its bytes are given one at a time:\n\
+          start, control, safe, full, power, demo, spot, cover, dock\n\
+          drive 200 500 (velocity, radius), direct 500 -500 (right, left), drivers 7, duties 32 0 128 (drivers 2, 1, 0)\n\
+          leds 8 0 128, outputs 5, infrared 142, baud 10, song 0 60 32 64 32 (number, notes), play 0\n\
+          sensors 35, list 9 13, stream 29 13, pause 0\n",
+    );
+}
+
+fn say_bad(session: Session, text: &[u8], place: usize, why: &[u8]) -> Session {
+    say_where(session.number, place);
+    say_text(text);
+    say(why);
+    session
+}
+
+// The words after `report`: which of the three it has; another word is bad.
+struct Flags {
+    drop: bool,
+    cliff: bool,
+    charger: bool,
+    ok: bool,
+}
+
+fn read_flag(flags: Flags, word: &[u8]) -> Flags {
+    let mut next = flags;
+    if line::same(word, b"drop") {
+        next.drop = true;
+    } else if line::same(word, b"cliff") {
+        next.cliff = true;
+    } else if line::same(word, b"charger") {
+        next.charger = true;
+    } else {
+        next.ok = false;
+    }
+    next
+}
+
+fn report(session: Session, text: &[u8], from: usize) -> Session {
+    let mut flags = Flags {
+        drop: false,
+        cliff: false,
+        charger: false,
+        ok: true,
+    };
+    let mut at = from;
+    let mut turns = text.len();
+    while turns > 0 {
+        let word = line::next_word(text, at);
+        let start = word.start;
+        let end = word.end;
+        if start == end {
+            break;
+        }
+        flags = read_flag(flags, &text[start..end]);
+        if !flags.ok {
+            return say_bad(
+                session,
+                &text[start..end],
+                start,
+                b" is none of drop, cliff and charger\n",
+            );
+        }
+        at = end;
+        turns -= 1;
+    }
+    calls::give_report(session, flags.drop, flags.cliff, flags.charger)
+}
+
+fn set_room(session: Session, text: &[u8], from: usize) -> Session {
+    let word = line::next_word(text, from);
+    let start = word.start;
+    let end = word.end;
+    let value = line::signed(&text[start..end]);
+    let Number::Plain(n) = value else {
+        return say_bad(
+            session,
+            &text[start..end],
+            start,
+            b" is no room: 0 to 1024\n",
+        );
+    };
+    if n > MOST_ROOM {
+        return say_bad(
+            session,
+            &text[start..end],
+            start,
+            b" is no room: 0 to 1024\n",
+        );
+    }
+    if !words::ends(text, end, session.number) {
+        return session;
+    }
+    let mut next = session;
+    next.room = n;
+    next
+}
+
+fn set_image(session: Session, text: &[u8], from: usize) -> Session {
+    let bytes = words::bytes_from(text, from, session.number);
+    if !bytes.ok {
+        return session;
+    }
+    if bytes.count != 40 {
+        return say_bad(session, b"", from, b"an image has 40 numbers\n");
+    }
+    let values = bytes.values;
+    let mut image = [0u8; 40];
+    wire::put_part(&values, 0, 40, &mut image, 0);
+    let mut next = session;
+    next.image = image;
+    next
+}
+
+// Bytes one at a time, or in one run.
+fn bytes(session: Session, text: &[u8], from: usize, whole: bool) -> Session {
+    let bytes = words::bytes_from(text, from, session.number);
+    if !bytes.ok {
+        return session;
+    }
+    let values = bytes.values;
+    let n = within(bytes.count, &values);
+    if whole {
+        return calls::give_run(session, &values[0..n]);
+    }
+    calls::give_bytes(session, &values[0..n])
+}
+
+fn power_on(session: Session) -> Session {
+    say(b"power-on\n");
+    calls::with_state(session, state::power_on())
+}
+
+// A command by name, or a word that is none.
+fn by_name(session: Session, text: &[u8], word: &[u8], start: usize, end: usize) -> Session {
+    let op = names::opcode_of(word);
+    if op == 0 {
+        return say_bad(
+            session,
+            word,
+            start,
+            b" is no word of this console: help lists them\n",
+        );
+    }
+    names::send_command(session, op, text, end)
+}
+
+// The words that take numbers or words after them.
+fn with_words(session: Session, text: &[u8], word: &[u8], start: usize, end: usize) -> Session {
+    if line::same(word, b"run") {
+        return bytes(session, text, end, true);
+    }
+    if line::same(word, b"report") {
+        return report(session, text, end);
+    }
+    if line::same(word, b"room") {
+        return set_room(session, text, end);
+    }
+    if line::same(word, b"image") {
+        return set_image(session, text, end);
+    }
+    by_name(session, text, word, start, end)
+}
+
+// Whether a word stands alone on its line.
+fn is_alone(word: &[u8]) -> bool {
+    line::same(word, b"tick")
+        || (line::same(word, b"song-end")
+            || (line::same(word, b"power-on")
+                || (line::same(word, b"state") || line::same(word, b"help"))))
+}
+
+fn alone(session: Session, word: &[u8]) -> Session {
+    if line::same(word, b"tick") {
+        return calls::give_tick(session);
+    }
+    if line::same(word, b"song-end") {
+        return calls::give_song_end(session);
+    }
+    if line::same(word, b"power-on") {
+        return power_on(session);
+    }
+    if line::same(word, b"state") {
+        let state = session.state;
+        show::say_state(state);
+        return session;
+    }
+    say_help();
+    session
+}
+
+fn by_word(session: Session, text: &[u8], word: &[u8], start: usize, end: usize) -> Session {
+    if !is_alone(word) {
+        return with_words(session, text, word, start, end);
+    }
+    if !words::ends(text, end, session.number) {
+        return session;
+    }
+    alone(session, word)
+}
+
+// A line that begins with a number is bytes, and any other goes by its first word. An empty line says nothing.
+fn read_line(session: Session, text: &[u8]) -> Session {
+    let word = line::next_word(text, 0);
+    let start = word.start;
+    let end = word.end;
+    if start == end {
+        return session;
+    }
+    let value = line::signed(&text[start..end]);
+    let Number::NotANumber = value else {
+        return bytes(session, text, start, false);
+    };
+    by_word(session, text, &text[start..end], start, end)
+}
+
+fn take_line(session: Session, line: &[u8], held: Held) -> Session {
+    let mut next = session;
+    if next.number < 1000000000 {
+        next.number = next.number + 1;
+    }
+    if held.cut {
+        say_where(next.number, LONGEST);
+        say(b"the line is longer than 1024 bytes and was not read\n");
+        return next;
+    }
+    let n = within(held.size, line);
+    read_line(next, &line[0..n])
+}
+
+// The lines of a block; a part of one is kept for the next block.
+fn take_block(session: Session, block: &[u8], line: &mut [u8], held: Held) -> Taken {
+    let mut now = session;
+    let mut size = held.size;
+    let mut cut = held.cut;
+    let mut from = 0;
+    let mut turns = block.len();
+    while turns > 0 {
+        let got = line::gather(block, from, line, size);
+        size = got.size;
+        cut = cut || got.cut;
+        if !got.ended {
+            break;
+        }
+        now = take_line(now, line, Held { size, cut });
+        size = 0;
+        cut = false;
+        from = got.next;
+        turns -= 1;
+    }
+    Taken {
+        session: now,
+        held: Held { size, cut },
+    }
+}
+
+// A last line without a newline; and a word where there was no line at all.
+fn finish(taken: Taken, line: &[u8]) {
+    let held = taken.held;
+    let session = taken.session;
+    if held.size > 0 || held.cut {
+        take_line(session, line, held);
+        return;
+    }
+    if session.number == 0 {
+        say(b"no input: nothing was read\n");
+    }
+}
+
+// Reads once; what comes may be less than a block, as a person types.
+fn read_some(block: &mut [u8]) -> usize
+    ensures { λ r. ⌜ r ≤ length (now (block .exit)) ⌝ }
+{
+    let got = libc::read(libc::STDIN_FILENO, block);
+    io::count(got, block)
+}
+
+// A proved loop has to end, and nothing says that the input does: the turns count down from a number that no run uses up.
+fn read_all(session: Session) {
+    let mut space = io::buffer();
+    let block: &mut [u8] = &mut space;
+    let mut kept = [0u8; LONGEST];
+    let line: &mut [u8] = &mut kept;
+    let mut taken = Taken {
+        session,
+        held: Held {
+            size: 0,
+            cut: false,
+        },
+    };
+    let mut turns = u64::MAX;
+    while turns > 0 {
+        let n = read_some(block);
+        if n == 0 {
+            break;
+        }
+        let now = taken.session;
+        let held = taken.held;
+        taken = take_block(now, &block[0..n], line, held);
+        turns -= 1;
+    }
+    finish(taken, line);
+}
+
+fn main() {
+    let state = state::power_on();
+    read_all(Session {
+        state,
+        image: [0u8; 40],
+        room: 832,
+        number: 0,
+    });
+}

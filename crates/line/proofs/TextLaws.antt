@@ -1,0 +1,95 @@
+-- Laws of lines, words and numbers: one turn of each loop.
+-- Assumes nothing.
+use mathlib.Core.Path.{_≡_, refl, ap, _∙_}
+use mathlib.Core.Bool.{Bool, true, false, not, cond, _&&_, and-false}
+use mathlib.Core.List.{List, [], _∷_}
+use mathlib.Core.Logic.{⊎-elim}
+use Prim.Native.Nat.{ℕ, suc, _+_, _-_, _*_, _≤_, _<_}
+use native.Mathlib.Omega.{arith}
+use lib.Dec.{leb, eqb}
+use lib.ListN.{length, getD, drop, drop-of-length-le, length-drop}
+use borrow.Author.Tests.{le-leb, lt-leb}
+use Rattle.wire.specs.Lists.{all, sameList}
+use Rattle.wire.proofs.BoolLaws.{le-or-lt, pos-eqb, cond-true, cond-false}
+use Rattle.wire.proofs.ListsLaws.{drop-next}
+use Rattle.line.specs.Text.{isDigit, front, fitting, largest, valueFrom, unsignedOf}
+use Rattle.line.specs.declared.Number.the-variants.{NotANumber, TooLarge, Plain}
+
+-- ---- front
+
+module _ (f : ℕ → Bool) (l : List ℕ) (i : ℕ) where
+  pub front-passed : i < length l → f (getD l i 0) ≡ true → i + front f (drop i l) ≡ i + 1 + front f (drop (i + 1) l)
+  front-passed h e =
+      let k = front f (drop (i + 1) l) in
+      ap (λ (m : List ℕ). i + front f m) (drop-next l i h) ∙ ap (λ (n : ℕ). i + n) (cond-true (f (getD l i 0)) (suc k) 0 e) ∙ omega arith
+
+  pub front-stopped : i < length l → f (getD l i 0) ≡ false → i + front f (drop i l) ≡ i
+  front-stopped h e =
+      let k = front f (drop (i + 1) l) in
+      ap (λ (m : List ℕ). i + front f m) (drop-next l i h) ∙ ap (λ (n : ℕ). i + n) (cond-false (f (getD l i 0)) (suc k) 0 e) ∙ omega arith
+
+  pub front-over : length l ≤ i → i + front f (drop i l) ≡ i
+  front-over h = ap (λ (m : List ℕ). i + front f m) (drop-of-length-le l h) ∙ omega arith
+
+-- ---- sameList
+
+-- texts of two lengths
+pub same-lengths : (a b : List ℕ) → (length a ≡ length b → ⊥) → sameList a b ≡ false
+same-lengths [] [] h = absurd (h refl)
+same-lengths [] (y ∷ ys) h = refl
+same-lengths (x ∷ xs) [] h = refl
+same-lengths (x ∷ xs) (y ∷ ys) h =
+    ap (λ (t : Bool). eqb x y && t) (same-lengths xs ys (λ (e : length xs ≡ length ys). h (ap suc e))) ∙ and-false (eqb x y)
+
+module _ (a b : List ℕ) (i : ℕ) (h : i < length a) (k : i < length b) where
+  pub same-next : sameList (drop i a) (drop i b) ≡ (eqb (getD a i 0) (getD b i 0) && sameList (drop (i + 1) a) (drop (i + 1) b))
+  same-next = rw (drop-next a i h, drop-next b i k) refl
+
+-- ---- valueFrom
+
+pub value-next : (acc : ℕ) (l : List ℕ) (i : ℕ) → i < length l
+    → let n = acc * 10 + (getD l i 0 - 48) in
+    valueFrom acc (drop i l) ≡ valueFrom (cond (leb n largest) n (suc largest)) (drop (i + 1) l)
+value-next acc l i h = ap (valueFrom acc) (drop-next l i h)
+
+-- ---- unsignedOf
+
+module _ (ds : List ℕ) where
+  pub unsigned-none : length ds ≡ 0 → unsignedOf ds ≡ NotANumber
+  unsigned-none e = simp e
+
+  pub unsigned-not : all isDigit ds ≡ false → unsignedOf ds ≡ NotANumber
+  unsigned-not e = simp (e, and-false (not (eqb (length ds) 0)))
+
+  module _ (h : 0 < length ds) (e : all isDigit ds ≡ true) where
+    pub unsigned-plain : valueFrom 0 ds ≤ largest → unsignedOf ds ≡ Plain (valueFrom 0 ds)
+    unsigned-plain l = simp (pos-eqb (length ds) h, e, le-leb (valueFrom 0 ds) largest l)
+
+    pub unsigned-large : largest < valueFrom 0 ds → unsignedOf ds ≡ TooLarge
+    unsigned-large l = simp (pos-eqb (length ds) h, e, lt-leb (valueFrom 0 ds) largest l)
+
+-- ---- parts
+
+pub front-le : (f : ℕ → Bool) (l : List ℕ) → front f l ≤ length l
+front-le f [] = omega arith
+front-le f (b ∷ bs) = go (f b) (front-le f bs)
+  where
+    go : (t : Bool) → front f bs ≤ length bs → cond t (suc (front f bs)) 0 ≤ suc (length bs)
+    go true h = omega arith
+    go false h = omega arith
+
+-- no more than there are, and no more than have room
+pub fitting-le : (n size room : ℕ) → fitting n size room ≤ n
+fitting-le n size room = ⊎-elim (λ (h : n ≤ room - size). let e = le-leb n (room - size) h in rw e (omega arith)) (λ (h : room - size < n). let e = lt-leb n (room - size) h in rw e (omega arith)) (le-or-lt n (room - size))
+
+pub fitting-room : (n size room : ℕ) → fitting n size room ≤ room - size
+fitting-room n size room = ⊎-elim (λ (h : n ≤ room - size). let e = le-leb n (room - size) h in rw e (omega arith)) (λ (h : room - size < n). let e = lt-leb n (room - size) h in rw e (omega arith)) (le-or-lt n (room - size))
+
+-- ---- places
+
+pub least-le : (a b : ℕ) → cond (leb a b) a b ≤ b
+least-le a b = ⊎-elim (λ (h : a ≤ b). let e = le-leb a b h in rw e (omega arith)) (λ (h : b < a). let e = lt-leb a b h in rw e (omega arith)) (le-or-lt a b)
+
+-- bytes that are passed over lie in the text
+pub pass-le : (f : ℕ → Bool) (l : List ℕ) (i : ℕ) → i ≤ length l → i + front f (drop i l) ≤ length l
+pass-le f l i h = let k = front-le f (drop i l) in omega (arith, k, length-drop i l)
