@@ -1,7 +1,5 @@
 -- `console::report` is safe and ends: the turns that are left.
 -- Assumes nothing.
-use Prim.Native.Nat.{_-_}
-use lib.ListN.{length}
 use borrow.Author.Needs.{needs}
 use Rattle.console.proofs.report.Statement.{statement}
 use Rattle.console.proofs.report.Tie as tie

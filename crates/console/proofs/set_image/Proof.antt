@@ -4,11 +4,6 @@ use lib.ListN.{length}
 use borrow.Author.Needs.{needs}
 use Rattle.console.proofs.set_image.Statement.{statement}
 use Rattle.console.proofs.set_image.Tie as tie
-use Rattle.console.proofs.set_image.Reads as reads
-use Rattle.console.proofs.set_image.Lts as lts
-use Rattle.console.proofs.say_bad.Reads as say-bad-reads
-use Rattle.console.proofs.words.bytes_from.Reads as bytes-from-reads
-use Rattle.wire.proofs.put_part.Reads as put-part-reads
 
 -- src/main.rt:118:9
 bytes-from-requires : tie.Need-bytes-from-requires

@@ -1,7 +1,6 @@
 -- `console::compare::same_table` is safe and ends.
 -- Assumes nothing.
 use Prim.Native.Nat.{_-_}
-use lib.ListN.{length}
 use borrow.Author.Needs.{needs}
 use Rattle.console.proofs.compare.same_table.Statement.{statement}
 use Rattle.console.proofs.compare.same_table.Tie as tie

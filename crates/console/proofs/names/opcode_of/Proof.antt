@@ -1,7 +1,6 @@
 -- `console::names::opcode_of` is safe and ends.
 -- Assumes nothing.
 use Prim.Native.Nat.{_-_}
-use lib.ListN.{length}
 use borrow.Author.Needs.{needs}
 use Rattle.console.proofs.names.opcode_of.Statement.{statement}
 use Rattle.console.proofs.names.opcode_of.Tie as tie

@@ -1,7 +1,6 @@
 -- `console::words::bytes_from` is safe and ends: a number more in each turn.
 -- Assumes nothing.
 use Prim.Native.Nat.{_-_}
-use lib.ListN.{length}
 use borrow.Author.Needs.{needs}
 use Rattle.console.proofs.words.bytes_from.Statement.{statement}
 use Rattle.console.proofs.words.bytes_from.Tie as tie
