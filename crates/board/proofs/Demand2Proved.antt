@@ -16,11 +16,11 @@ use Rattle.command.specs.CommandTable.{isIn, isLegal, rowOf, allowedOf, legalOf
 use Rattle.command.proofs.CommandsProved.{commands-in-numbers, round-trip}
 use Rattle.state.specs.State.{motorsOff}
 use Rattle.state.specs.Accepted.{modeNamed, orderNamed, offUnlessDriven, wheelsLegal, dutiesLegal, outputsLegal, baudLegal, selectedLegal, streamLegal, lengthLegal, playingSet, notesZero, idsZero, motorsTyped, keptTyped, songTyped, songsTyped, streamTyped, typed, acceptedOf}
+use Rattle.state.proofs.SameLaws.{same-exactly}
 use Rattle.board.specs.Judge.{statusOf, judgeOf}
 use Rattle.board.specs.Calls.{fedOf, byteOf, intoCliff, reportOf, chunkNow, tickOf, songEndOf, runOf}
 use Rattle.board.specs.Demand2.{Demand2}
 use Rattle.board.proofs.RulesProved.{rules-right}
-use Rattle.board.proofs.SameLaws.{same-state, equal-same}
 use Rattle.board.proofs.SentLaws.{read-back}
 
 -- the tables of cases are computed: each `tt` and each `refl`
@@ -51,8 +51,7 @@ demand-2 =
       named-cases = tt;
       further = tt;
       rules = rules-right;
-      same-equal = same-state;
-      equal-same = equal-same;
+      records-same = same-exactly;
       write-then-read = read-back;
       read-then-write = round-trip .read-written;
     }

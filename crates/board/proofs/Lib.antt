@@ -5,7 +5,6 @@ pub mod CallsLaws
 pub mod RunLaws
 pub mod ListsOfCallsLaws
 pub mod RulesProved
-pub mod SameLaws
 pub mod SentLaws
 pub mod Demand1Proved
 pub mod Demand2Proved

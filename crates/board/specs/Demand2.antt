@@ -18,11 +18,11 @@ use Rattle.command.specs.Cases.{rowOpcodes, refusalRight, modeRight, byteCases,
 use Rattle.command.specs.Commands.{messageAt, Sendable}
 use Rattle.command.specs.declared.Message.{Message}
 use Rattle.state.specs.Accepted.{acceptedOf}
+use Rattle.state.specs.Same.{SameExactly}
 use Rattle.state.specs.declared.State.{State}
 use Rattle.board.specs.Judge.{judgeOf}
 use Rattle.board.specs.Calls.{byteOf, performed, runOf, Call, byte, perform, after, numbers}
 use Rattle.board.specs.Rules.{RulesRight}
-use Rattle.board.specs.Same.{sameState}
 use Rattle.board.specs.EffectTable.{effectTable, rowRight}
 use Rattle.board.specs.Shown.{shownCases, furtherCases, boardPasses, refusesAll, staysPassive, alwaysZero, doesNothing, firstByteOnly, countsSlice, countsLess, rejections, rejects}
 
@@ -77,8 +77,7 @@ pub record Demand2 : Type 0 where
   -- and for every record and every value
   pub rules : RulesRight
   -- in both tables the records compared are equal
-  pub same-equal : (a b : State) → T (sameState a b) → a ≡ b
-  pub equal-same : (a b : State) → a ≡ b → T (sameState a b)
+  pub records-same : SameExactly
   -- what our writer writes is read back
   pub write-then-read : (m : Message) → Sendable m → (s : State) → T (acceptedOf s) → s .partial ≡ emptyPartial → ReadBack m s
   -- what is read is written back: bytes that are complete at the last one and not before, with legal data, are what our writer writes of their message

@@ -13,9 +13,8 @@ use Rattle.state.specs.State.{withMode, withWheels, withDuties, withBaud, withL
 use Rattle.state.specs.Cases.{moving}
 use Rattle.state.specs.declared.Song.{Song}
 use Rattle.state.specs.declared.State.{State}
-use Rattle.board.specs.Outcome.{Outcome, gives, answers}
+use Rattle.board.specs.Outcome.{Outcome, sameOutcome, gives, answers}
 use Rattle.board.specs.Judge.{judgeOf}
-use Rattle.board.specs.Same.{sameOutcome}
 
 -- ---- the table
 

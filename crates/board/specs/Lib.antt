@@ -2,7 +2,6 @@ pub mod Outcome
 pub mod Judge
 pub mod Calls
 pub mod Rules
-pub mod Same
 pub mod EffectTable
 pub mod Shown
 pub mod Demand1

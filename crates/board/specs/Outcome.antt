@@ -1,11 +1,13 @@
 -- What a call gives (document 01, 'Numbers given back'): both equations of a call's contract are read off one outcome.
 -- Assumes nothing.
-use mathlib.Core.Bool.{cond}
+use mathlib.Core.Bool.{Bool, cond, _&&_}
 use mathlib.Core.List.{List, []}
 use Prim.Native.Nat.{ℕ}
-use lib.Dec.{leb}
+use lib.Dec.{leb, eqb}
 use lib.ListN.{length}
+use Rattle.wire.specs.Lists.{sameList}
 use Rattle.wire.specs.Buffer.{overwrite}
+use Rattle.state.specs.Same.{sameState}
 use Rattle.state.specs.declared.State.{State}
 use Rattle.board.specs.declared.Answer.{Answer}
 
@@ -14,6 +16,10 @@ pub record Outcome : Type 0 where
   pub number : ℕ
   pub state : State
   pub answer : List ℕ
+
+-- whether two are the same: the test of the tables of cases
+abbrev pub sameOutcome : Outcome → Outcome → Bool
+sameOutcome a b = eqb (a .number) (b .number) && (sameState (a .state) (b .state) && sameList (a .answer) (b .answer))
 
 -- this number and record, and no answer bytes: every number but 0, and 0 where the call has none
 abbrev pub gives : ℕ → State → Outcome

@@ -11,10 +11,10 @@ use Rattle.wire.specs.Lists.{all, span, padded, sameList}
 use Rattle.wire.specs.Sixteen.{minus}
 use Rattle.frame.specs.Push.{stored}
 use Rattle.state.specs.State.{withMode, withPartial, withWheels, withDuties, withBaud, withSong, withSelected, withPlaying, withList, withStreaming, toPassive}
+use Rattle.state.specs.Same.{sameState}
 use Rattle.state.specs.declared.State.{State}
 use Rattle.board.specs.Outcome.{gives}
 use Rattle.board.specs.Calls.{Performed, performed, runOf, Call, byte, run, report, tick, songEnd, perform}
-use Rattle.board.specs.Same.{sameState}
 use Rattle.board.specs.EffectTable.{song, stopped, telling, sampleImage}
 
 -- ---- rows

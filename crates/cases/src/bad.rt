@@ -13,7 +13,6 @@ use crate::change::with_outputs;
 use crate::change::with_selected;
 use crate::change::with_wheels;
 use crate::change::without_notes;
-use crate::same::same;
 use crate::show::column;
 use crate::show::plus;
 use crate::show::small;
@@ -26,7 +25,7 @@ use state::State;
 fn kept(state: State, answer: Answer) -> bool {
     small(answer.number);
     let after = answer.state;
-    answer.length == 0 && same(state, after)
+    answer.length == 0 && state::same(state, after)
 }
 
 // And a run, which also read nothing.
@@ -36,7 +35,7 @@ fn kept_by_run(state: State, bytes: &[u8]) -> bool {
     let ran = board::run(state, bytes, &image, &mut buffer);
     small(ran.number);
     let after = ran.state;
-    ran.length == 0 && (ran.read == 0 && same(state, after))
+    ran.length == 0 && (ran.read == 0 && state::same(state, after))
 }
 
 fn ticked(state: State) -> Answer {

@@ -1,7 +1,6 @@
 // A call of the board, and its line: the record before it, what was sent, what came back, the record after it, and where it stands in the papers.
 use crate::record::record;
 use crate::record::rest;
-use crate::same::same;
 use crate::show::column;
 use crate::show::digits;
 use crate::show::list;
@@ -90,7 +89,7 @@ pub fn sent(bytes: &[u8]) -> usize {
 
 // The record after a call, and the line's end.
 fn ends(before: State, after: State, place: &[u8]) {
-    if same(before, after) {
+    if state::same(before, after) {
         column(text(b"unchanged"), 30);
     } else {
         let shown = record(after);

@@ -8,7 +8,6 @@ mod commands;
 mod frames;
 mod record;
 mod runs;
-mod same;
 mod show;
 mod shown;
 mod slips;

@@ -1,5 +1,4 @@
 // The board's calls: each is written as one line, and a changed record as another.
-use crate::compare::same_state;
 use crate::show::say;
 use crate::show::say_answer;
 use crate::show::say_byte;
@@ -19,7 +18,7 @@ pub struct Session {
 // The session with another record; it is written where it changed.
 pub fn with_state(session: Session, state: State) -> Session {
     let before = session.state;
-    if !same_state(before, state) {
+    if !state::same(before, state) {
         say_state(state);
     }
     let mut next = session;

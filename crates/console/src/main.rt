@@ -1,7 +1,6 @@
 // A board that a person can try. It reads lines from standard input, gives what they say to the board, and writes what comes back: one line for each call,
 // and one for a changed record. A bad line gets a message with its line and place, and stops nothing.
 mod calls;
-mod compare;
 mod names;
 mod show;
 mod words;
@@ -70,11 +69,11 @@ struct Flags {
 
 fn read_flag(flags: Flags, word: &[u8]) -> Flags {
     let mut next = flags;
-    if line::same(word, b"drop") {
+    if wire::same(word, b"drop") {
         next.drop = true;
-    } else if line::same(word, b"cliff") {
+    } else if wire::same(word, b"cliff") {
         next.cliff = true;
-    } else if line::same(word, b"charger") {
+    } else if wire::same(word, b"charger") {
         next.charger = true;
     } else {
         next.ok = false;
@@ -193,16 +192,16 @@ fn by_name(session: Session, text: &[u8], word: &[u8], start: usize, end: usize)
 
 // The words that take numbers or words after them.
 fn with_words(session: Session, text: &[u8], word: &[u8], start: usize, end: usize) -> Session {
-    if line::same(word, b"run") {
+    if wire::same(word, b"run") {
         return bytes(session, text, end, true);
     }
-    if line::same(word, b"report") {
+    if wire::same(word, b"report") {
         return report(session, text, end);
     }
-    if line::same(word, b"room") {
+    if wire::same(word, b"room") {
         return set_room(session, text, end);
     }
-    if line::same(word, b"image") {
+    if wire::same(word, b"image") {
         return set_image(session, text, end);
     }
     by_name(session, text, word, start, end)
@@ -210,23 +209,23 @@ fn with_words(session: Session, text: &[u8], word: &[u8], start: usize, end: usi
 
 // Whether a word stands alone on its line.
 fn is_alone(word: &[u8]) -> bool {
-    line::same(word, b"tick")
-        || (line::same(word, b"song-end")
-            || (line::same(word, b"power-on")
-                || (line::same(word, b"state") || line::same(word, b"help"))))
+    wire::same(word, b"tick")
+        || (wire::same(word, b"song-end")
+            || (wire::same(word, b"power-on")
+                || (wire::same(word, b"state") || wire::same(word, b"help"))))
 }
 
 fn alone(session: Session, word: &[u8]) -> Session {
-    if line::same(word, b"tick") {
+    if wire::same(word, b"tick") {
         return calls::give_tick(session);
     }
-    if line::same(word, b"song-end") {
+    if wire::same(word, b"song-end") {
         return calls::give_song_end(session);
     }
-    if line::same(word, b"power-on") {
+    if wire::same(word, b"power-on") {
         return power_on(session);
     }
-    if line::same(word, b"state") {
+    if wire::same(word, b"state") {
         let state = session.state;
         show::say_state(state);
         return session;

@@ -49,7 +49,7 @@ pub fn opcode_of(word: &[u8]) -> u8 {
         let name = line::next_word(names, at);
         let start = name.start;
         let end = name.end;
-        if line::same(word, &names[start..end]) {
+        if wire::same(word, &names[start..end]) {
             return opcodes[i];
         }
         at = end;

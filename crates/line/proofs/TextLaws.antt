@@ -1,7 +1,7 @@
 -- Laws of lines, words and numbers: one turn of each loop.
 -- Assumes nothing.
-use mathlib.Core.Path.{_≡_, refl, ap, _∙_}
-use mathlib.Core.Bool.{Bool, true, false, not, cond, _&&_, and-false}
+use mathlib.Core.Path.{_≡_, sym, ap, _∙_}
+use mathlib.Core.Bool.{Bool, true, false, not, cond, and-false}
 use mathlib.Core.List.{List, [], _∷_}
 use mathlib.Core.Logic.{⊎-elim}
 use Prim.Native.Nat.{ℕ, suc, _+_, _-_, _*_, _≤_, _<_}
@@ -9,7 +9,7 @@ use native.Mathlib.Omega.{arith}
 use lib.Dec.{leb, eqb}
 use lib.ListN.{length, getD, drop, drop-of-length-le, length-drop}
 use borrow.Author.Tests.{le-leb, lt-leb}
-use Rattle.wire.specs.Lists.{all, sameList}
+use Rattle.wire.specs.Lists.{all}
 use Rattle.wire.proofs.BoolLaws.{le-or-lt, pos-eqb, cond-true, cond-false}
 use Rattle.wire.proofs.ListsLaws.{drop-next}
 use Rattle.line.specs.Text.{isDigit, front, fitting, largest, valueFrom, unsignedOf}
@@ -31,26 +31,49 @@ module _ (f : ℕ → Bool) (l : List ℕ) (i : ℕ) where
   pub front-over : length l ≤ i → i + front f (drop i l) ≡ i
   front-over h = ap (λ (m : List ℕ). i + front f m) (drop-of-length-le l h) ∙ omega arith
 
--- ---- sameList
-
--- texts of two lengths
-pub same-lengths : (a b : List ℕ) → (length a ≡ length b → ⊥) → sameList a b ≡ false
-same-lengths [] [] h = absurd (h refl)
-same-lengths [] (y ∷ ys) h = refl
-same-lengths (x ∷ xs) [] h = refl
-same-lengths (x ∷ xs) (y ∷ ys) h =
-    ap (λ (t : Bool). eqb x y && t) (same-lengths xs ys (λ (e : length xs ≡ length ys). h (ap suc e))) ∙ and-false (eqb x y)
-
-module _ (a b : List ℕ) (i : ℕ) (h : i < length a) (k : i < length b) where
-  pub same-next : sameList (drop i a) (drop i b) ≡ (eqb (getD a i 0) (getD b i 0) && sameList (drop (i + 1) a) (drop (i + 1) b))
-  same-next = rw (drop-next a i h, drop-next b i k) refl
-
 -- ---- valueFrom
 
-pub value-next : (acc : ℕ) (l : List ℕ) (i : ℕ) → i < length l
-    → let n = acc * 10 + (getD l i 0 - 48) in
-    valueFrom acc (drop i l) ≡ valueFrom (cond (leb n largest) n (suc largest)) (drop (i + 1) l)
+pub value-next : (acc : ℕ) (l : List ℕ) (i : ℕ) → i < length l → valueFrom acc (drop i l) ≡ valueFrom (acc * 10 + (getD l i 0 - 48)) (drop (i + 1) l)
 value-next acc l i h = ap (valueFrom acc) (drop-next l i h)
+
+-- digits that follow make no number less
+value-le : (acc : ℕ) (l : List ℕ) → acc ≤ valueFrom acc l
+value-le acc [] = omega arith
+value-le acc (d ∷ ds) = omega (arith, value-le (acc * 10 + (d - 48)) ds)
+
+-- a number as the code holds it, which stops above the greatest
+abbrev pub capped : ℕ → ℕ
+capped n = cond (leb n largest) n (suc largest)
+
+capped-plain : (n : ℕ) → n ≤ largest → capped n ≡ n
+capped-plain n h = rw (le-leb n largest h)
+
+capped-large : (n : ℕ) → largest < n → capped n ≡ suc largest
+capped-large n h = rw (lt-leb n largest h)
+
+-- to stop before the other digits changes nothing of that
+pub capped-value : (acc : ℕ) (l : List ℕ) → capped (valueFrom acc l) ≡ capped (valueFrom (capped acc) l)
+capped-value acc l =
+    ⊎-elim (λ (h : acc ≤ largest). ap (λ (n : ℕ). capped (valueFrom n l)) (sym (capped-plain acc h)))
+    (λ (h : largest < acc).
+    let e = capped-large acc h in
+    let j : largest < valueFrom acc l = omega (arith, value-le acc l) in
+    let k : largest < valueFrom (capped acc) l = omega (arith, e, value-le (capped acc) l) in
+    capped-large (valueFrom acc l) j ∙ sym (capped-large (valueFrom (capped acc) l) k))
+    (le-or-lt acc largest)
+
+-- what is held tells the number, or that it is above the greatest
+module _ (n v : ℕ) (e : capped n ≡ capped v) where
+  pub held-plain : v ≤ largest → n ≡ v
+  held-plain h =
+      let f = capped-plain v h in
+      ⊎-elim (λ (k : n ≤ largest). sym (capped-plain n k) ∙ e ∙ f) (λ (k : largest < n). let g = capped-large n k in absurd (omega (arith, e, f, g)))
+      (le-or-lt n largest)
+
+  pub held-large : largest < v → largest < n
+  held-large h =
+      let f = capped-large v h in
+      ⊎-elim (λ (k : n ≤ largest). let g = capped-plain n k in absurd (omega (arith, e, f, g))) (λ (k : largest < n). k) (le-or-lt n largest)
 
 -- ---- unsignedOf
 

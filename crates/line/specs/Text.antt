@@ -50,10 +50,10 @@ wordFrom text from =
 abbrev pub largest : ℕ
 largest = 65535
 
--- the number of decimal digits, one more than the greatest where it is above that; acc is that of the digits before
+-- the number that decimal digits say; acc is that of the digits before
 abbrev pub valueFrom : ℕ → List ℕ → ℕ
 valueFrom acc [] = acc
-valueFrom acc (d ∷ ds) = let n = acc * 10 + (d - 48) in valueFrom (cond (leb n largest) n (suc largest)) ds
+valueFrom acc (d ∷ ds) = valueFrom (acc * 10 + (d - 48)) ds
 
 -- at least one digit, and nothing else
 abbrev pub areDigits : List ℕ → Bool

@@ -5,7 +5,6 @@ ghost use Prim.Native.Nat.{_+_, _-_, _≤_};
 ghost use lib.Dec.{leb};
 ghost use lib.ListN.{length, drop};
 ghost use Rattle.wire.specs.Buffer.{placed};
-ghost use Rattle.wire.specs.Lists.{sameList};
 ghost use Rattle.line.specs.Text.{isBlank, isDigit, front, passes, wordFrom, unsignedOf, signedOf, partOf, gatheredOf};
 
 // What a word says as a number.
@@ -99,23 +98,6 @@ pub fn next_word(text: &[u8], from: usize) -> Word
     let start = pass(text, at, BLANKS);
     let end = pass(text, start, WORD);
     Word { start, end }
-}
-
-// Whether two texts are the same.
-pub fn same(a: &[u8], b: &[u8]) -> bool
-    ensures { λ r. ⌜ r ≡ sameList (now (a .entry)) (now (b .entry)) ⌝ }
-{
-    if a.len() != b.len() {
-        return false;
-    }
-    let mut i = 0;
-    while i < a.len() {
-        if a[i] != b[i] {
-            return false;
-        }
-        i += 1;
-    }
-    true
 }
 
 // A number without a sign.

@@ -1,4 +1,5 @@
 pub mod State
 pub mod Accepted
+pub mod Same
 pub mod Cases
 pub mod Record

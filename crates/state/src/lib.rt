@@ -9,15 +9,19 @@
 //
 // The board's caller will hand a record in with each call, so it may be any value of the type. This crate says which are bad; the number 8 is the board's.
 // Proved (specs/Record.antt): which records are accepted, exactly; the power-on record is; and each setter keeps a record accepted, under the condition on what it
-// sets.
+// sets; and (specs/Same.antt) that `same` is equality.
 ghost use mathlib.Core.Path.{_≡_};
 ghost use mathlib.Core.Bool.{_&&_};
 ghost use Rattle.wire.specs.Lists.{all};
 ghost use Rattle.frame.specs.Reach.{reachableOf};
 ghost use Rattle.state.specs.State.{powerOn, motorsOff};
 ghost use Rattle.state.specs.Accepted.{orderNamed, offUnlessDriven, legalNumbers, wheelsLegal, dutiesLegal, motorsOk, keptOk, songOk, songsOk, streamOk, acceptedOf};
+
+mod compare;
+
 use command::Command;
 use command::Message;
+pub use compare::same;
 use frame::Partial;
 
 // Power-on's baud code.

@@ -1,7 +1,7 @@
 -- Laws of lists, and of the tests over them.
 -- Assumes nothing.
 use mathlib.Core.Path.{_≡_, refl, sym, ap, ap₂, subst, _∙_}
-use mathlib.Core.Bool.{Bool, true, _&&_}
+use mathlib.Core.Bool.{Bool, true, false, _&&_, and-false}
 use mathlib.Core.List.{List, [], _∷_, _++_, append-assoc, map, flatMap}
 use mathlib.Core.Logic.{⊎-elim}
 use Prim.Native.Nat.{ℕ, zero, suc, _+_, _-_, _≤_, _<_, zero-le}
@@ -67,6 +67,18 @@ same-list (x ∷ xs) [] t = absurd t
 same-list (x ∷ xs) (y ∷ ys) t =
     let s = and-yes (eqb x y) (sameList xs ys) t in
     ap₂ (λ (n : ℕ) (l : List ℕ). n ∷ l) (eqb→eq x y (s .0)) (same-list xs ys (s .1))
+
+-- lists of two lengths
+pub same-lengths : (a b : List ℕ) → (length a ≡ length b → ⊥) → sameList a b ≡ false
+same-lengths [] [] h = absurd (h refl)
+same-lengths [] (y ∷ ys) h = refl
+same-lengths (x ∷ xs) [] h = refl
+same-lengths (x ∷ xs) (y ∷ ys) h =
+    ap (λ (t : Bool). eqb x y && t) (same-lengths xs ys (λ (e : length xs ≡ length ys). h (ap suc e))) ∙ and-false (eqb x y)
+
+module _ (a b : List ℕ) (i : ℕ) (h : i < length a) (k : i < length b) where
+  pub same-next : sameList (drop i a) (drop i b) ≡ (eqb (getD a i 0) (getD b i 0) && sameList (drop (i + 1) a) (drop (i + 1) b))
+  same-next = rw (drop-next a i h, drop-next b i k) refl
 
 -- ---- sum
 

@@ -1,10 +1,10 @@
 -- `line::unsigned` meets its contract: what is left decides.
 -- Assumes nothing.
 use mathlib.Core.Path.{_≡_, refl, sym, ap, _∙_}
-use mathlib.Core.Bool.{true, cond}
+use mathlib.Core.Bool.{true}
 use mathlib.Core.List.{List, []}
 use mathlib.Core.Logic.{⊎-elim}
-use Prim.Native.Nat.{ℕ, suc, _+_, _-_, _*_, _≤_, _<_}
+use Prim.Native.Nat.{ℕ, _+_, _-_, _*_, _≤_, _<_}
 use native.Mathlib.Omega.{arith}
 use lib.Dec.{leb}
 use lib.ListN.{length, getD, drop, drop-of-length-le}
@@ -15,13 +15,13 @@ use Rattle.wire.proofs.BoolLaws.{both}
 use Rattle.wire.proofs.ListsLaws.{all-next}
 use Rattle.line.specs.Text.{isDigit, largest, valueFrom}
 use Rattle.line.specs.declared.Number.the-variants.{Plain}
-use Rattle.line.proofs.TextLaws.{value-next, unsigned-none, unsigned-not, unsigned-plain, unsigned-large}
+use Rattle.line.proofs.TextLaws.{value-next, capped, capped-value, held-plain, held-large, unsigned-none, unsigned-not, unsigned-plain, unsigned-large}
 use Rattle.line.proofs.unsigned.Statement.{statement}
 use Rattle.line.proofs.unsigned.Tie as tie
 
 abbrev Inv-loop : tie.InvT-loop
 Inv-loop word value₀ i₀ value i =
-    (0 < length word) × ((all isDigit word ≡ all isDigit (drop i word)) × ((valueFrom 0 word ≡ valueFrom value (drop i word)) × (value ≤ 65536)))
+    (0 < length word) × ((all isDigit word ≡ all isDigit (drop i word)) × ((capped (valueFrom 0 word) ≡ capped (valueFrom value (drop i word))) × (value ≤ 65536)))
 
 abbrev μ-loop : tie.MeasureT-loop
 μ-loop word value₀ i₀ value i = length word - i
@@ -62,7 +62,7 @@ module _ (c : tie.Else2 Inv-loop μ-loop) where
 -- the number so far, at most one above the greatest
 joined : (c : tie.Joined3 Inv-loop μ-loop)
     → let n = turn (c .before) .loop .value * 10 + (digit (c .before) - 48) in
-    (c .if3 .value ≡ cond (leb n largest) n (suc largest)) × (c .if3 .value ≤ 65536)
+    (c .if3 .value ≡ capped n) × (c .if3 .value ≤ 65536)
 joined c =
     let n = turn (c .before) .loop .value * 10 + (digit (c .before) - 48) in
     ⊎-elim (λ w. (w .1 ∙ simp (le-leb n largest (w .0 .taken)), omega (arith, w .1, w .0 .taken)))
@@ -75,11 +75,16 @@ loop-again c =
     let i = at-loop .loop .i in
     let l = at-loop .before .before .before .args .word .now in
     let h = c .before .before .before .before .loop-test .taken in
+    let v = at-loop .loop .value in
+    let n = v * 10 + (getD l i 0 - 48) in
     let j = joined c in (
       inv .0,
       (
         inv .1 .0 ∙ all-next isDigit l i h ∙ simp (is-digit (c .before)),
-        (inv .1 .1 .0 ∙ value-next (at-loop .loop .value) l i h ∙ ap (λ (v : ℕ). valueFrom v (drop (i + 1) l)) (sym (j .0)), j .1),
+        (
+          inv .1 .1 .0 ∙ ap capped (value-next v l i h) ∙ capped-value n (drop (i + 1) l) ∙ ap (λ (m : ℕ). capped (valueFrom m (drop (i + 1) l))) (sym (j .0)),
+          j .1,
+        ),
       ),
     )
 
@@ -94,20 +99,20 @@ module _ (c : tie.After-loop Inv-loop μ-loop) where
   digits : all isDigit word ≡ true
   digits = c .before .loop .inv .1 .0 ∙ ap (all isDigit) ends
 
-  value : valueFrom 0 word ≡ c .before .loop .value
-  value = c .before .loop .inv .1 .1 .0 ∙ ap (valueFrom (c .before .loop .value)) ends
+  held : capped (valueFrom 0 word) ≡ capped (c .before .loop .value)
+  held = c .before .loop .inv .1 .1 .0 ∙ ap (λ (l : List ℕ). capped (valueFrom (c .before .loop .value) l)) ends
 
 returns-3 : tie.Need-returns-3 Inv-loop μ-loop
 returns-3 c =
     let over = c .before in
-    let e = value over in
+    let e = held-plain (valueFrom 0 (word over)) (over .before .loop .value) (held over) (c .if4 .taken) in
     ap (λ (n : ℕ). Plain n) (sym e) ∙ sym (unsigned-plain (word over) (over .before .loop .inv .0) (digits over) (omega (arith, e, c .if4 .taken)))
 
 returns-4 : tie.Need-returns-4 Inv-loop μ-loop
 returns-4 c =
     let over = c .before in
-    let e = value over in
-    sym (unsigned-large (word over) (over .before .loop .inv .0) (digits over) (omega (arith, e, c .if4 .left)))
+    let h = held-large (valueFrom 0 (word over)) (over .before .loop .value) (held over) (c .if4 .left) in
+    sym (unsigned-large (word over) (over .before .loop .inv .0) (digits over) h)
 
 pub unsigned-spec : {M : Type 1} → statement M
 unsigned-spec =

@@ -1,24 +1,30 @@
 -- Laws of the test of two records: it passes where they are equal, and nowhere else.
 -- Assumes nothing.
-use mathlib.Core.Path.{_≡_, refl, ap, ap₂, subst}
-use mathlib.Core.Bool.{Bool, true, false, Bool·beq}
+use mathlib.Core.Path.{_≡_, refl, sym, ap, ap₂, subst, _∙_}
+use mathlib.Core.Bool.{Bool, true, false, _&&_, Bool·beq}
 use mathlib.Core.List.{List, [], _∷_}
-use Prim.Native.Nat.{ℕ}
+use Prim.Native.Nat.{ℕ, _+_, _<_}
+use native.Mathlib.Numerals.{add-one}
 use lib.Dec.{T, eqb, eqb→eq}
 use lib.IntN.{ℤ, pos, negsuc}
-use mir.Facts.{and-yes}
+use lib.ListN.{length, getD, drop}
+use lib.Seq.{drop-cons}
+use mir.Syntax.{w16}
+use mir.Val.{SFits, toZ, ofZ}
+use mir.ValLaws.{toZ-ofZ}
+use mir.Facts.{and-yes, yes-eqb}
 use borrow.Author.Tests.{eq-eqb}
 use Rattle.wire.specs.Lists.{sameList}
-use Rattle.wire.proofs.BoolLaws.{to-T, beq-eq}
+use Rattle.wire.proofs.BoolLaws.{to-T, beq-eq, same-truth}
 use Rattle.wire.proofs.ListsLaws.{same-list}
 use Rattle.frame.specs.declared.Partial.{Partial}
 use Rattle.state.specs.declared.Motors.{Motors}
 use Rattle.state.specs.declared.Kept.{Kept}
 use Rattle.state.specs.declared.Song.{Song}
 use Rattle.state.specs.declared.Songs.{Songs}
 use Rattle.state.specs.declared.Stream.{Stream}
 use Rattle.state.specs.declared.State.{State}
-use Rattle.board.specs.Same.{sameNumber, sameMotors, sameKept, sameSong, sameTable, sameSongs, sameStream, samePartial, sameState}
+use Rattle.state.specs.Same.{sameNumber, sameMotors, sameKept, sameSong, sameTable, sameSongs, sameStream, samePartial, sameState, SameExactly}
 
 -- ---- nowhere else
 
@@ -91,7 +97,7 @@ same-partial a b t =
       eqb→eq (a .remaining) (b .remaining) (y .1),
     )
 
-pub same-state : (a b : State) → T (sameState a b) → a ≡ b
+same-state : (a b : State) → T (sameState a b) → a ≡ b
 same-state a b t =
     let v = and-yes (eqb (a .mode) (b .mode)) _ t in
     let w = and-yes (sameMotors (a .motors) (b .motors)) _ (v .1) in
@@ -116,6 +122,9 @@ number-self : (a : ℤ) → sameNumber a a ≡ true
 number-self (pos a) = self a
 number-self (negsuc a) = self a
 
+equal-number : (a b : ℤ) → a ≡ b → T (sameNumber a b)
+equal-number a b e = subst (λ (x : ℤ). T (sameNumber a x)) e (to-T (sameNumber a a) (number-self a))
+
 flag-self : (a : Bool) → Bool·beq a a ≡ true
 flag-self true = refl
 flag-self false = refl
@@ -131,5 +140,22 @@ table-self (x ∷ xs) = simp (self (x .len), list-self (x .notes), table-self xs
 state-self : (a : State) → sameState a a ≡ true
 state-self a = simp (self, number-self, flag-self, list-self, table-self)
 
-pub equal-same : (a b : State) → a ≡ b → T (sameState a b)
+equal-same : (a b : State) → a ≡ b → T (sameState a b)
 equal-same a b e = subst (λ (x : State). T (sameState a x)) e (to-T (sameState a a) (state-self a))
+
+-- ---- for the functions that test a part
+
+-- the machine holds a number's bits
+pub by-bits : (v w : ℤ) → SFits w16 v → SFits w16 w → sameNumber v w ≡ eqb (ofZ w16 v) (ofZ w16 w)
+by-bits v w f g =
+    let back : ofZ w16 v ≡ ofZ w16 w → v ≡ w = λ e. sym (toZ-ofZ w16 v f) ∙ ap (toZ w16) e ∙ toZ-ofZ w16 w g in
+    same-truth (sameNumber v w) (eqb (ofZ w16 v) (ofZ w16 w)) (λ t. yes-eqb (ap (ofZ w16) (same-number v w t)))
+    (λ t. equal-number v w (back (eqb→eq (ofZ w16 v) (ofZ w16 w) t)))
+
+-- one turn of a loop over two tables
+pub table-next : (d e : Song) (l m : List Song) (i : ℕ) → i < length l → i < length m
+    → sameTable (drop i l) (drop i m) ≡ (sameSong (getD l i d) (getD m i e) && sameTable (drop (i + 1) l) (drop (i + 1) m))
+table-next d e l m i h k = rw (add-one, drop-cons l i d h, drop-cons m i e k) refl
+
+pub same-exactly : SameExactly
+same-exactly = record { same-equal = same-state; equal-same = equal-same }

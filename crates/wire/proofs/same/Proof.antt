@@ -1,4 +1,4 @@
--- `line::same` meets its contract: what is left decides.
+-- `wire::same` meets its contract: what is left decides.
 -- Assumes nothing.
 use mathlib.Core.Path.{_≡_, refl, sym, _∙_}
 use mathlib.Core.Bool.{_&&_}
@@ -8,10 +8,10 @@ use lib.Dec.{eqb}
 use lib.ListN.{length, getD, drop, drop-of-length-le}
 use borrow.Author.Needs.{needs}
 use borrow.Author.Tests.{eq-eqb, ne-eqb}
 use Rattle.wire.specs.Lists.{sameList}
-use Rattle.line.proofs.TextLaws.{same-lengths, same-next}
-use Rattle.line.proofs.same.Statement.{statement}
-use Rattle.line.proofs.same.Tie as tie
+use Rattle.wire.proofs.ListsLaws.{same-lengths, same-next}
+use Rattle.wire.proofs.same.Statement.{statement}
+use Rattle.wire.proofs.same.Tie as tie
 
 abbrev Inv-loop : tie.InvT-loop
 Inv-loop a b i₀ i = (length a ≡ length b) × (sameList a b ≡ sameList (drop i a) (drop i b))

@@ -1,18 +1,18 @@
--- Whether two records, or two outcomes, are the same: the test of the tables of cases.
+-- Whether two records are the same: what `same` gives back, and the test of the tables of cases.
 -- Assumes nothing.
+use mathlib.Core.Path.{_≡_}
 use mathlib.Core.Bool.{Bool, true, false, Bool·beq, _&&_}
 use mathlib.Core.List.{List, [], _∷_}
-use lib.Dec.{eqb}
+use lib.Dec.{T, eqb}
 use lib.IntN.{ℤ, pos, negsuc}
 use Rattle.wire.specs.Lists.{sameList}
 use Rattle.frame.specs.declared.Partial.{Partial}
 use Rattle.state.specs.declared.Motors.{Motors}
 use Rattle.state.specs.declared.Kept.{Kept}
 use Rattle.state.specs.declared.Song.{Song}
 use Rattle.state.specs.declared.Songs.{Songs}
 use Rattle.state.specs.declared.Stream.{Stream}
 use Rattle.state.specs.declared.State.{State}
-use Rattle.board.specs.Outcome.{Outcome}
 
 abbrev pub sameNumber : ℤ → ℤ → Bool
 sameNumber (pos a) (pos b) = eqb a b
@@ -52,5 +52,7 @@ sameState a b =
     && (sameKept (a .kept) (b .kept)
     && (sameSongs (a .songs) (b .songs) && (sameStream (a .stream) (b .stream) && samePartial (a .partial) (b .partial)))))
 
-abbrev pub sameOutcome : Outcome → Outcome → Bool
-sameOutcome a b = eqb (a .number) (b .number) && (sameState (a .state) (b .state) && sameList (a .answer) (b .answer))
+-- THEOREM: the test passes where two records are equal, and nowhere else
+pub record SameExactly : Type 0 where
+  pub same-equal : (a b : State) → T (sameState a b) → a ≡ b
+  pub equal-same : (a b : State) → a ≡ b → T (sameState a b)
