@@ -1,11 +1,12 @@
 // The board's calls: each is written as one line, and a changed record as another.
-use crate::show::say;
 use crate::show::say_answer;
-use crate::show::say_byte;
-use crate::show::say_bytes;
 use crate::show::say_state;
-use crate::show::within;
 use state::State;
+use terminal::say;
+use terminal::say_bytes;
+use terminal::say_number;
+use terminal::wide;
+use terminal::within;
 
 // What a line is read with: the record, the image and the room that are lent with each call, and the line's number.
 pub struct Session {
@@ -34,7 +35,7 @@ pub fn give_byte(session: Session, b: u8) -> Session {
     let state = session.state;
     let answer = board::byte(state, b, &image, &mut lent[0..room]);
     say(b"byte ");
-    say_byte(b);
+    say_number(wide(b));
     let read = if answer.number == 8 { 0 } else { 1 };
     say_answer(answer.number, read, answer.length, lent);
     let next = answer.state;
@@ -59,7 +60,7 @@ pub fn give_run(session: Session, bytes: &[u8]) -> Session {
     let image = session.image;
     let state = session.state;
     let ran = board::run(state, bytes, &image, &mut lent[0..room]);
-    say(b"run");
+    say(b"run ");
     say_bytes(bytes);
     say_answer(ran.number, ran.read, ran.length, lent);
     let next = ran.state;

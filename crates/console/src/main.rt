@@ -1,36 +1,23 @@
 // A board that a person can try. It reads lines from standard input, gives what they say to the board, and writes what comes back: one line for each call,
 // and one for a changed record. A bad line gets a message with its line and place, and stops nothing.
 mod calls;
-mod names;
+mod send;
 mod show;
-mod words;
 
-ghost use Prim.Native.Nat.{_≤_};
-ghost use lib.ListN.{length};
 use calls::Session;
 use line::Number;
-use show::say;
-use show::say_size;
-use show::within;
-use words::say_text;
-use words::say_where;
+use terminal::Line;
+use terminal::say;
+use terminal::say_number;
+use terminal::say_shown;
+use terminal::say_wanted;
+use terminal::say_where;
+use terminal::within;
 
 // The most bytes of a line that are read.
 const LONGEST: usize = 1024;
 
 const MOST_ROOM: usize = 1024;
-
-// A line of which some bytes are there: their number, and whether some did not fit.
-struct Held {
-    size: usize,
-    cut: bool,
-}
-
-// What a block leaves.
-struct Taken {
-    session: Session,
-    held: Held,
-}
 
 fn say_help() {
     say(
@@ -54,7 +41,7 @@ fn say_help() {
 
 fn say_bad(session: Session, text: &[u8], place: usize, why: &[u8]) -> Session {
     say_where(session.number, place);
-    say_text(text);
+    say_shown(text);
     say(why);
     session
 }
@@ -112,46 +99,58 @@ fn report(session: Session, text: &[u8], from: usize) -> Session {
     calls::give_report(session, flags.drop, flags.cliff, flags.charger)
 }
 
+// A bad word, or none, where a room should stand.
+fn say_no_room(session: Session, text: &[u8], place: usize) -> Session {
+    if text.len() == 0 {
+        return say_bad(session, b"room", place, b" wants a number from 0 to 1024\n");
+    }
+    say_bad(session, text, place, b" is not a number from 0 to 1024\n")
+}
+
 fn set_room(session: Session, text: &[u8], from: usize) -> Session {
     let word = line::next_word(text, from);
     let start = word.start;
     let end = word.end;
     let value = line::signed(&text[start..end]);
     let Number::Plain(n) = value else {
-        return say_bad(
-            session,
-            &text[start..end],
-            start,
-            b" is no room: 0 to 1024\n",
-        );
+        return say_no_room(session, &text[start..end], start);
     };
     if n > MOST_ROOM {
-        return say_bad(
-            session,
-            &text[start..end],
-            start,
-            b" is no room: 0 to 1024\n",
-        );
+        return say_no_room(session, &text[start..end], start);
     }
-    if !words::ends(text, end, session.number) {
+    if !terminal::ends(text, end, session.number) {
         return session;
     }
+    say(b"room is ");
+    say_number(n);
+    say(b"\n");
     let mut next = session;
     next.room = n;
     next
 }
 
+fn first_forty(values: [u8; 512]) -> [u8; 40] {
+    let mut image = [0u8; 40];
+    let mut i = 0;
+    while i < 40 {
+        image[i] = values[i];
+        i += 1;
+    }
+    image
+}
+
 fn set_image(session: Session, text: &[u8], from: usize) -> Session {
-    let bytes = words::bytes_from(text, from, session.number);
+    let bytes = terminal::bytes_from(text, from, session.number);
     if !bytes.ok {
         return session;
     }
     if bytes.count != 40 {
-        return say_bad(session, b"", from, b"an image has 40 numbers\n");
+        say_wanted(session.number, from, 40, bytes.count);
+        return session;
     }
     let values = bytes.values;
-    let mut image = [0u8; 40];
-    wire::put_part(&values, 0, 40, &mut image, 0);
+    let image = first_forty(values);
+    say(b"image is set\n");
     let mut next = session;
     next.image = image;
     next
@@ -159,7 +158,7 @@ fn set_image(session: Session, text: &[u8], from: usize) -> Session {
 
 // Bytes one at a time, or in one run.
 fn bytes(session: Session, text: &[u8], from: usize, whole: bool) -> Session {
-    let bytes = words::bytes_from(text, from, session.number);
+    let bytes = terminal::bytes_from(text, from, session.number);
     if !bytes.ok {
         return session;
     }
@@ -178,7 +177,7 @@ fn power_on(session: Session) -> Session {
 
 // A command by name, or a word that is none.
 fn by_name(session: Session, text: &[u8], word: &[u8], start: usize, end: usize) -> Session {
-    let op = names::opcode_of(word);
+    let op = words::opcode_named(word);
     if op == 0 {
         return say_bad(
             session,
@@ -187,7 +186,7 @@ fn by_name(session: Session, text: &[u8], word: &[u8], start: usize, end: usize)
             b" is no word of this console: help lists them\n",
         );
     }
-    names::send_command(session, op, text, end)
+    send::command(session, op, text, start, end)
 }
 
 // The words that take numbers or words after them.
@@ -238,7 +237,7 @@ fn by_word(session: Session, text: &[u8], word: &[u8], start: usize, end: usize)
     if !is_alone(word) {
         return with_words(session, text, word, start, end);
     }
-    if !words::ends(text, end, session.number) {
+    if !terminal::ends(text, end, session.number) {
         return session;
     }
     alone(session, word)
@@ -259,92 +258,45 @@ fn read_line(session: Session, text: &[u8]) -> Session {
     by_word(session, text, &text[start..end], start, end)
 }
 
-fn take_line(session: Session, line: &[u8], held: Held) -> Session {
-    let mut next = session;
-    if next.number < 1000000000 {
-        next.number = next.number + 1;
-    }
-    if held.cut {
-        say_where(next.number, LONGEST);
-        say(b"the line is longer than 1024 bytes and was not read\n");
-        return next;
-    }
-    let n = within(held.size, line);
-    read_line(next, &line[0..n])
-}
-
-// The lines of a block; a part of one is kept for the next block.
-fn take_block(session: Session, block: &[u8], line: &mut [u8], held: Held) -> Taken {
+fn take_line(session: Session, text: &[u8], next: Line) -> Session {
     let mut now = session;
-    let mut size = held.size;
-    let mut cut = held.cut;
-    let mut from = 0;
-    let mut turns = block.len();
-    while turns > 0 {
-        let got = line::gather(block, from, line, size);
-        size = got.size;
-        cut = cut || got.cut;
-        if !got.ended {
-            break;
-        }
-        now = take_line(now, line, Held { size, cut });
-        size = 0;
-        cut = false;
-        from = got.next;
-        turns -= 1;
+    let input = next.input;
+    now.number = input.number;
+    if next.cut {
+        say_where(now.number, LONGEST);
+        say(b"the line is longer than 1024 bytes and was not read\n");
+        return now;
     }
-    Taken {
-        session: now,
-        held: Held { size, cut },
-    }
+    let n = within(next.size, text);
+    read_line(now, &text[0..n])
 }
 
-// A last line without a newline; and a word where there was no line at all.
-fn finish(taken: Taken, line: &[u8]) {
-    let held = taken.held;
-    let session = taken.session;
-    if held.size > 0 || held.cut {
-        take_line(session, line, held);
-        return;
-    }
-    if session.number == 0 {
+// Why there is no further line, where a person would not know it.
+fn finish(came: u8, number: usize) {
+    if came == terminal::FAILED {
+        say(b"standard input cannot be read\n");
+    } else if number == 0 {
         say(b"no input: nothing was read\n");
     }
 }
 
-// Reads once; what comes may be less than a block, as a person types.
-fn read_some(block: &mut [u8]) -> usize
-    ensures { λ r. ⌜ r ≤ length (now (block .exit)) ⌝ }
-{
-    let got = libc::read(libc::STDIN_FILENO, block);
-    io::count(got, block)
-}
-
 // A proved loop has to end, and nothing says that the input does: the turns count down from a number that no run uses up.
 fn read_all(session: Session) {
-    let mut space = io::buffer();
-    let block: &mut [u8] = &mut space;
-    let mut kept = [0u8; LONGEST];
-    let line: &mut [u8] = &mut kept;
-    let mut taken = Taken {
-        session,
-        held: Held {
-            size: 0,
-            cut: false,
-        },
-    };
+    let mut space = [0u8; LONGEST];
+    let text: &mut [u8] = &mut space;
+    let mut now = session;
+    let mut input = terminal::open();
     let mut turns = u64::MAX;
     while turns > 0 {
-        let n = read_some(block);
-        if n == 0 {
-            break;
+        let next = terminal::next_line(input, text);
+        if next.came != terminal::LINE {
+            finish(next.came, now.number);
+            return;
         }
-        let now = taken.session;
-        let held = taken.held;
-        taken = take_block(now, &block[0..n], line, held);
+        now = take_line(now, text, next);
+        input = next.input;
         turns -= 1;
     }
-    finish(taken, line);
 }
 
 fn main() {

@@ -16,6 +16,7 @@ pub use numbers::MOST;
 pub use numbers::Signed;
 pub use numbers::bytes_from;
 pub use numbers::ends;
+pub use numbers::say_wanted;
 pub use numbers::signed_from;
 pub use output::pad;
 pub use output::plus;

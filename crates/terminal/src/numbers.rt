@@ -1,6 +1,7 @@
 // The numbers of a line, and what is said of bad ones: the line, the place, and what was wrong.
 ghost use Prim.Native.Nat.{_≤_};
 use crate::output::say;
+use crate::output::say_number;
 use crate::output::say_shown;
 use crate::output::say_where;
 use line::Number;
@@ -102,6 +103,16 @@ pub fn bytes_from(text: &[u8], from: usize, number: usize) -> Bytes
     }
     let ok = ends(text, at, number);
     Bytes { values, count, ok }
+}
+
+// What is said of too many numbers or too few.
+pub fn say_wanted(number: usize, place: usize, wanted: usize, given: usize) {
+    say_where(number, place);
+    say(b"numbers wanted: ");
+    say_number(wanted);
+    say(b", given: ");
+    say_number(given);
+    say(b"\n");
 }
 
 // The sixteen bits of a number with a sign; 65536 where it has none.

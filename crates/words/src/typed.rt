@@ -6,7 +6,7 @@ use line::Number;
 use terminal::bytes_from;
 use terminal::ends;
 use terminal::say;
-use terminal::say_number;
+use terminal::say_wanted;
 use terminal::say_where;
 use terminal::signed_from;
 
@@ -45,7 +45,7 @@ pub fn opcode_named(word: &[u8]) -> u8 {
         let end = name.end;
         let from = code.start;
         at = code.end;
-        if line::same(word, &table[start..end]) {
+        if wire::same(word, &table[start..end]) {
             return byte_of(&table[from..at]);
         }
         turns -= 1;
@@ -85,14 +85,6 @@ fn behind(head: [u8; 35], at: usize, values: [u8; 512], from: usize) -> [u8; 35]
     bytes
 }
 
-// What is said of too many numbers or too few.
-fn say_wanted(number: usize, place: usize, wanted: usize) {
-    say_where(number, place);
-    say(b"the command has ");
-    say_number(wanted);
-    say(b" numbers\n");
-}
-
 // Numbers of one byte each, of which there are as many as the opcode says.
 fn plain(op: u8, wanted: usize, text: &[u8], from: usize, number: usize) -> Framed {
     let read = bytes_from(text, from, number);
@@ -101,7 +93,7 @@ fn plain(op: u8, wanted: usize, text: &[u8], from: usize, number: usize) -> Fram
     head[0] = op;
     let bytes = behind(head, 1, values, 0);
     if read.ok && read.count != wanted {
-        say_wanted(number, from, wanted);
+        say_wanted(number, from, wanted, read.count);
         return Framed { bytes, ok: false };
     }
     Framed { bytes, ok: read.ok }

@@ -1,4 +1,4 @@
--- `console::report` is safe and ends: the turns that are left.
+-- `console::report` is safe and ends.
 -- Assumes nothing.
 use borrow.Author.Needs.{needs}
 use Rattle.console.proofs.report.Statement.{statement}
