@@ -115,6 +115,7 @@ pub fn unsigned(word: &[u8]) -> Number
             return Number::NotANumber;
         }
         let n = value * 10 + ((d - 48) as usize);
+        // Any digits after a number that is too large leave it too large.
         value = if n <= LARGEST { n } else { LARGEST + 1 };
         i += 1;
     }

@@ -143,6 +143,9 @@ state-self a = simp (self, number-self, flag-self, list-self, table-self)
 equal-same : (a b : State) → a ≡ b → T (sameState a b)
 equal-same a b e = subst (λ (x : State). T (sameState a x)) e (to-T (sameState a a) (state-self a))
 
+pub same-exactly : SameExactly
+same-exactly = record { same-equal = same-state; equal-same = equal-same }
+
 -- ---- for the functions that test a part
 
 -- the machine holds a number's bits
@@ -156,6 +159,3 @@ by-bits v w f g =
 pub table-next : (d e : Song) (l m : List Song) (i : ℕ) → i < length l → i < length m
     → sameTable (drop i l) (drop i m) ≡ (sameSong (getD l i d) (getD m i e) && sameTable (drop (i + 1) l) (drop (i + 1) m))
 table-next d e l m i h k = rw (add-one, drop-cons l i d h, drop-cons m i e k) refl
-
-pub same-exactly : SameExactly
-same-exactly = record { same-equal = same-state; equal-same = equal-same }

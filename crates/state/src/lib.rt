@@ -1,4 +1,4 @@
-// The state record of the board: what it is at power-on, and which records are bad (document 01, 'Bad record').
+// The state record of the board: what it is at power-on, which records are bad (document 01, 'Bad record'), and whether two are the same.
 //
 //     mode       0 Off, 1 Passive, 2 Safe, 3 Full
 //     motors     the wheel order and three duties
@@ -8,17 +8,16 @@
 //     partial    the held frame
 //
 // The board's caller will hand a record in with each call, so it may be any value of the type. This crate says which are bad; the number 8 is the board's.
-// Proved (specs/Record.antt): which records are accepted, exactly; the power-on record is; and each setter keeps a record accepted, under the condition on what it
-// sets; and (specs/Same.antt) that `same` is equality.
+// Proved (specs/Record.antt): which records are accepted, exactly; the power-on record is; each setter keeps a record accepted, under the condition on what it
+// sets; and (specs/Same.antt) the test of two records is equality.
+mod compare;
+
 ghost use mathlib.Core.Path.{_≡_};
 ghost use mathlib.Core.Bool.{_&&_};
 ghost use Rattle.wire.specs.Lists.{all};
 ghost use Rattle.frame.specs.Reach.{reachableOf};
 ghost use Rattle.state.specs.State.{powerOn, motorsOff};
 ghost use Rattle.state.specs.Accepted.{orderNamed, offUnlessDriven, legalNumbers, wheelsLegal, dutiesLegal, motorsOk, keptOk, songOk, songsOk, streamOk, acceptedOf};
-
-mod compare;
-
 use command::Command;
 use command::Message;
 pub use compare::same;
