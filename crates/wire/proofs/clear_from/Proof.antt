@@ -1,40 +1,41 @@
--- `wire::clear_from` meets its contract. The invariant: what is left to look at decides.
+-- `wire::clear_from` meets its contract. The invariant: what was seen, and what is left to look at.
 -- Assumes nothing.
-use mathlib.Core.Path.{_≡_, refl, _∙_}
-use Prim.Native.Nat.{_-_}
-use lib.ListN.{length, drop, drop-of-length-le}
+use mathlib.Core.Path.{_≡_, refl, sym, ap, _∙_}
+use mathlib.Core.Bool.{Bool, true, false, _&&_, and-true}
+use Prim.Native.Nat.{_+_, _-_}
+use lib.ListN.{length, getD, drop, drop-of-length-le}
 use borrow.Author.Needs.{needs}
-use borrow.Author.Tests.{eq-eqb, ne-eqb}
 use Rattle.wire.specs.Lists.{isZero, allZero}
 use Rattle.wire.proofs.ListsLaws.{all-next}
 use Rattle.wire.proofs.clear_from.Statement.{statement}
 use Rattle.wire.proofs.clear_from.Tie as tie
+use Rattle.wire.proofs.clear_from.Reads as reads
+use Rattle.wire.proofs.clear_from.Lts as lts
 
 abbrev Inv-loop : tie.InvT-loop
-Inv-loop bytes from i₀ i = allZero (drop from bytes) ≡ allZero (drop i bytes)
+Inv-loop bytes from clear₀ i₀ clear i = allZero (drop from bytes) ≡ (clear && allZero (drop i bytes))
 
 abbrev μ-loop : tie.MeasureT-loop
-μ-loop bytes from i₀ i = length bytes - i
+μ-loop bytes from clear₀ i₀ clear i = length bytes - i
 
-loop-holds : tie.Need-loop-holds Inv-loop μ-loop
-loop-holds c = refl
-
-returns : tie.Need-returns Inv-loop μ-loop
-returns c =
-    let at-loop = c .before .before .before in
-    let l = at-loop .before .args .bytes .now in
-    simp (at-loop .loop .inv, all-next isZero l (at-loop .loop .i) (c .before .before .loop-test .taken), ne-eqb _ _ (c .if1 .taken))
+-- a byte that was left is now seen
+seen : (x y z : Bool) → (x && (y && z)) ≡ ((x && y) && z)
+seen true y z = refl
+seen false y z = refl
 
 loop-again : tie.Need-loop-again Inv-loop μ-loop
 loop-again c =
-    let at-loop = c .before .before .before in
+    let at-loop = c .before .before in
     let l = at-loop .before .args .bytes .now in
-    at-loop .loop .inv ∙ simp (all-next isZero l (at-loop .loop .i) (c .before .before .loop-test .taken), eq-eqb _ _ (c .if1 .left))
+    let i = at-loop .loop .i in
+    at-loop .loop .inv ∙ ap (λ (b : Bool). at-loop .loop .clear && b) (all-next isZero l i (c .before .loop-test .taken))
+    ∙ seen (at-loop .loop .clear) (isZero (getD l i 0)) (allZero (drop (i + 1) l))
 
-returns-2 : tie.Need-returns-2 Inv-loop μ-loop
-returns-2 c =
+returns : tie.Need-returns Inv-loop μ-loop
+returns c =
     let at-loop = c .before in
-    simp (at-loop .loop .inv, drop-of-length-le (at-loop .before .args .bytes .now) (c .loop-test .left))
+    let l = at-loop .before .args .bytes .now in
+    sym (at-loop .loop .inv ∙ rw (drop-of-length-le l (c .loop-test .left)) (and-true (at-loop .loop .clear)))
 
 pub clear-from-spec : {M : Type 1} → statement M
 clear-from-spec =
@@ -42,10 +43,9 @@ clear-from-spec =
     (tie.spec
     Inv-loop
     μ-loop
-    loop-holds
+    (λ c. refl)
     (λ c. search needs)
-    returns
     (λ c. search needs)
     (λ c. search needs)
     loop-again
-    returns-2)
+    returns)

@@ -1,0 +1,151 @@
+// One record of a file: a setting, or a call of the board.
+use crate::layout::byte_at;
+use crate::layout::state_of;
+use crate::layout::take;
+use crate::layout::word_at;
+use board::Answer;
+use board::Ran;
+use command::Command;
+use command::Message;
+use state::State;
+
+const IMAGE: u8 = 5;
+
+const ROOM: u8 = 130;
+
+const STATE: u8 = 131;
+
+pub fn is_setting(kind: u8) -> bool {
+    kind == IMAGE || (kind == ROOM || kind == STATE)
+}
+
+// The settings: each is changed by its own kind alone.
+
+pub fn set_state(state: State, kind: u8, body: &[u8]) -> State {
+    if kind == STATE {
+        return state_of(body);
+    }
+    state
+}
+
+pub fn set_image(image: [u8; 40], kind: u8, body: &[u8]) -> [u8; 40] {
+    if kind != IMAGE {
+        return image;
+    }
+    let mut next = [0u8; 40];
+    take(body, 0, &mut next);
+    next
+}
+
+pub fn set_room(room: usize, kind: u8, body: &[u8]) -> usize {
+    if kind == ROOM { word_at(body, 0) } else { room }
+}
+
+// What a call gave, with the bytes that it read.
+fn having_read(answer: Answer, read: usize) -> Ran {
+    let state = answer.state;
+    Ran {
+        number: answer.number,
+        length: answer.length,
+        state,
+        read,
+    }
+}
+
+fn byte(state: State, b: u8, image: &[u8; 40], buffer: &mut [u8]) -> Ran {
+    let answer = board::byte(state, b, image, buffer);
+    let read = if answer.number == 8 { 0 } else { 1 };
+    having_read(answer, read)
+}
+
+fn run(state: State, body: &[u8], image: &[u8; 40], buffer: &mut [u8]) -> Ran {
+    if body.len() < 2 {
+        return board::run(state, b"", image, buffer);
+    }
+    board::run(state, &body[2..], image, buffer)
+}
+
+fn report(state: State, flags: u8) -> Ran {
+    let drop = flags % 2 == 1;
+    let cliff = flags / 2 % 2 == 1;
+    let charger = flags / 4 % 2 == 1;
+    having_read(board::safety_report(state, drop, cliff, charger), 0)
+}
+
+// A command of a message's bytes: its opcode, three bytes, and two numbers with a sign.
+fn command_of(op: u8, a: u8, b: u8, c: u8, first: i16, second: i16) -> Command {
+    match op {
+        128 => Command::Start,
+        129 => Command::Baud(a),
+        130 => Command::Control,
+        131 => Command::Safe,
+        132 => Command::Full,
+        133 => Command::Power,
+        134 => Command::Spot,
+        135 => Command::Cover,
+        136 => Command::Demo,
+        137 => Command::Drive(first, second),
+        138 => Command::Drivers(a),
+        139 => Command::Leds(a, b, c),
+        140 => Command::Song(a, b),
+        141 => Command::Play(a),
+        142 => Command::Sensors(a),
+        143 => Command::Dock,
+        144 => Command::Duties(a, b, c),
+        145 => Command::Direct(first, second),
+        147 => Command::Outputs(a),
+        148 => Command::Stream(a),
+        149 => Command::QueryList(a),
+        150 => Command::Pause(a),
+        151 => Command::Infrared(a),
+        152..=158 => Command::NotOffered(op),
+        _ => Command::Unknown(op),
+    }
+}
+
+fn message_of(body: &[u8]) -> Message {
+    let first = wire::read16(byte_at(body, 4), byte_at(body, 5));
+    let second = wire::read16(byte_at(body, 6), byte_at(body, 7));
+    let command = command_of(
+        byte_at(body, 0),
+        byte_at(body, 1),
+        byte_at(body, 2),
+        byte_at(body, 3),
+        first,
+        second,
+    );
+    let mut payload = [0u8; 32];
+    take(body, 8, &mut payload);
+    Message { command, payload }
+}
+
+// The host-side writer reads and changes no record.
+fn write(state: State, body: &[u8], buffer: &mut [u8]) -> Ran {
+    let sent = command::write(message_of(body), buffer);
+    Ran {
+        number: sent.number,
+        length: sent.length,
+        state,
+        read: 0,
+    }
+}
+
+pub fn perform(state: State, kind: u8, body: &[u8], image: &[u8; 40], buffer: &mut [u8]) -> Ran {
+    match kind {
+        1 => byte(state, byte_at(body, 0), image, buffer),
+        2 => report(state, byte_at(body, 0)),
+        3 => having_read(board::tick(state, image, buffer), 0),
+        4 => having_read(board::song_end(state), 0),
+        129 => run(state, body, image, buffer),
+        _ => write(state, body, buffer),
+    }
+}
+
+// An answer's bytes are set to 0 again, so that every call gets the same buffer.
+pub fn clear(buffer: &mut [u8], size: usize) {
+    let mut i = 0;
+    while i < size && i < buffer.len() {
+        buffer[i] = 0;
+        i += 1;
+    }
+}
