@@ -1,130 +1,167 @@
-// What every section writes with: text, numbers and bytes, to standard output.
+// What is carried from line to line, and how words and bytes are found in a line.
+ghost use Prim.Native.Nat.{_≤_};
+ghost use lib.ListN.{length};
+use command::Command;
+use command::Message;
+use state::State;
+use terminal::plus;
+use terminal::say;
+use terminal::say_where;
 
-const OUT: i32 = 1;
-
-pub fn text(s: &[u8]) {
-    io::write_all(OUT, s);
+// The record, the image and the room that are lent with each call, and what came of the last act: the command where it had a name, the writer's number, the mode
+// before it, its bytes, which are those from `from` to `end` of all that were given since power-on, and the number and the answer that came back.
+pub struct Page {
+    pub form: [u8; 256],
+    pub answer: [u8; 1024],
+    pub given: [u8; 512],
+    pub image: [u8; 40],
+    pub form_size: usize,
+    pub form_line: usize,
+    pub line: usize,
+    pub room: usize,
+    pub from: usize,
+    pub end: usize,
+    pub length: usize,
+    pub number: u8,
+    pub written: u8,
+    pub was: u8,
+    pub named: bool,
+    pub message: Message,
+    pub state: State,
 }
 
-// A line of the page.
-pub fn line(s: &[u8]) {
-    text(s);
-    text(b"\n");
-}
-
-fn wide(x: u8) -> u64 {
-    x as u64
-}
-
-pub fn count(n: usize) {
-    io::print_decimal(OUT, n as u64);
-}
-
-pub fn number(n: u8) {
-    io::print_decimal(OUT, wide(n));
-}
-
-// The number that two bytes say, without a sign.
-fn word(hi: u8, lo: u8) -> u64 {
-    (hi as u64) * 256 + (lo as u64)
-}
-
-// A sixteen-bit number with its sign, read off the two bytes that are sent for it.
-pub fn signed(v: i16) {
-    let bits = word(wire::high16(v), wire::low16(v));
-    if bits < 32768 {
-        io::print_decimal(OUT, bits);
-        return;
+// Before the template's first line: the record is as at power-on, the image all 0, and any answer has room.
+pub fn blank() -> Page {
+    let message = Message {
+        command: Command::Start,
+        payload: [0u8; 32],
+    };
+    Page {
+        state: state::power_on(),
+        image: [0u8; 40],
+        room: 1024,
+        message,
+        named: false,
+        written: 0,
+        was: command::OFF,
+        given: [0u8; 512],
+        from: 0,
+        end: 0,
+        number: 0,
+        answer: [0u8; 1024],
+        length: 0,
+        form: [0u8; 256],
+        form_size: 0,
+        form_line: 0,
+        line: 0,
     }
-    text(b"-");
-    io::print_decimal(OUT, std::num::wrapping_sub_u64(65536, bits));
 }
 
-// The first n bytes of a buffer, in decimal, with what stands between them.
-pub fn joined(buffer: &[u8], n: usize, between: &[u8]) {
-    let mut i = 0;
-    while i < buffer.len() {
-        if i == n {
-            return;
+// What can be wrong with a line.
+pub enum Fault {
+    Directive,
+    Field,
+    Brace,
+    NoForm,
+    LongForm,
+    LongLine,
+    Act,
+    OneNumber,
+    Image,
+    EndsBefore,
+    ManyGiven,
+}
+
+// What is said of an act.
+fn say_wrong(fault: Fault) {
+    match fault {
+        Fault::Act => say(b"this is no act\n"),
+        Fault::OneNumber => say(b"one number is wanted\n"),
+        Fault::Image => say(b"a place of the 40 and bytes from there on are wanted\n"),
+        Fault::EndsBefore => say(b"a frame ends before the last of the bytes\n"),
+        _ => say(b"more than 512 bytes since power-on are not kept\n"),
+    }
+    ;
+}
+
+fn say_why(fault: Fault) {
+    match fault {
+        Fault::Directive => say(b"this is none of @#, @do, @form and @row\n"),
+        Fault::Field => say(b"this is no field\n"),
+        Fault::Brace => say(b"the brace is not closed\n"),
+        Fault::NoForm => say(b"no @form was given before this row\n"),
+        Fault::LongForm => say(b"a layout has at most 256 bytes\n"),
+        Fault::LongLine => say(b"the line has more than 2048 bytes and is left out\n"),
+        _ => {
+            say_wrong(fault);
+            0
         }
-        if i > 0 {
-            text(between);
+    }
+    ;
+}
+
+// A message with its line and place.
+pub fn say_fault(number: usize, place: usize, fault: Fault) {
+    say_where(number, place);
+    say_why(fault);
+}
+
+// A bad line or act is told, and changes nothing.
+pub fn bad(page: Page, place: usize, fault: Fault) -> Page {
+    say_fault(page.line, place, fault);
+    page
+}
+
+// A single byte of text.
+pub fn mark(b: u8) {
+    say(&[b]);
+}
+
+// The place of a byte, from a place on, or the end of the text.
+pub fn find(text: &[u8], from: usize, b: u8) -> usize
+    requires { ⌜ from ≤ length (now text) ⌝ }
+    ensures { λ r. ⌜ (from ≤ r) × (r ≤ length (now (text .entry))) ⌝ }
+{
+    let mut i = from;
+    while i < text.len() {
+        if text[i] == b {
+            return i;
         }
-        number(buffer[i]);
         i += 1;
     }
+    i
 }
 
-// And as code, one after the other; a dash where there are none.
-pub fn bytes(buffer: &[u8], n: usize) {
-    if n == 0 {
-        text(b"-");
-        return;
+// Bytes written at a place of a buffer, if there is room for all of them.
+pub fn put(bytes: &[u8], buffer: &mut [u8], at: usize) -> bool {
+    if at > buffer.len() {
+        return false;
     }
-    text(b"`");
-    joined(buffer, n, b" ");
-    text(b"`");
-}
-
-pub fn all(s: &[u8]) {
-    bytes(s, s.len());
-}
-
-// A mode's name.
-pub fn mode(mode: u8) {
-    match mode {
-        command::OFF => text(b"Off"),
-        command::PASSIVE => text(b"Passive"),
-        command::SAFE => text(b"Safe"),
-        command::FULL => text(b"Full"),
-        _ => text(b"none"),
+    if bytes.len() > buffer.len() - at {
+        return false;
     }
+    wire::put_part(bytes, 0, bytes.len(), buffer, at);
+    true
 }
 
-// The sum of a slice's bytes.
-pub fn sum(s: &[u8]) {
-    let mut total = 0;
-    let mut i = 0;
-    while i < s.len() {
-        total = std::num::wrapping_add_u64(total, wide(s[i]));
-        i += 1;
+// A word's place in a list of words, from 1; 0 where it is none of them.
+pub fn place_among(word: &[u8], words: &[u8]) -> usize {
+    let mut at = 0;
+    let mut place = 1;
+    let mut turns = words.len();
+    while turns > 0 {
+        let one = line::next_word(words, at);
+        let start = one.start;
+        let end = one.end;
+        if start == end {
+            return 0;
+        }
+        if wire::same(word, &words[start..end]) {
+            return place;
+        }
+        at = end;
+        place = plus(place, 1);
+        turns -= 1;
     }
-    io::print_decimal(OUT, total);
-}
-
-// Cells of a table's row; the last one ends the line.
-
-pub fn text_cell(s: &[u8]) {
-    text(b"| ");
-    text(s);
-    text(b" ");
-}
-
-pub fn last_cell(s: &[u8]) {
-    text_cell(s);
-    text(b"|\n");
-}
-
-pub fn number_cell(n: u8) {
-    text(b"| ");
-    number(n);
-    text(b" ");
-}
-
-pub fn count_cell(n: usize) {
-    text(b"| ");
-    count(n);
-    text(b" ");
-}
-
-pub fn bytes_cell(buffer: &[u8], n: usize) {
-    text(b"| ");
-    bytes(buffer, n);
-    text(b" ");
-}
-
-pub fn mode_cell(m: u8) {
-    text(b"| ");
-    mode(m);
-    text(b" ");
+    0
 }

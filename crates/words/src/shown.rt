@@ -81,15 +81,22 @@ fn say_command(command: Command) -> usize {
     }
 }
 
+fn legal(count: u8) -> usize {
+    if count <= frame::LEGAL_COUNT {
+        wide(count)
+    } else {
+        0
+    }
+}
+
 // How many bytes of the payload are a command's notes or ids; none past a legal count.
 fn used(command: Command) -> usize {
-    let n = match command {
-        Command::Song(_, notes) => 2 * wide(notes),
-        Command::QueryList(ids) => wide(ids),
-        Command::Stream(ids) => wide(ids),
+    match command {
+        Command::Song(_, notes) => plus(legal(notes), legal(notes)),
+        Command::QueryList(ids) => legal(ids),
+        Command::Stream(ids) => legal(ids),
         _ => 0,
-    };
-    if n <= 32 { n } else { 0 }
+    }
 }
 
 // A command as a value, and in brackets its notes or ids where it has some: Stream(2) [29, 13].
