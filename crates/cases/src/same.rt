@@ -11,19 +11,19 @@ fn same_motors(a: Motors, b: Motors) -> bool {
     let before = a.duties;
     let after = b.duties;
     a.order == b.order
-        && (a.first == b.first && (a.second == b.second && check::same(&before, &after)))
+        && (a.first == b.first && (a.second == b.second && line::same(&before, &after)))
 }
 
 fn same_kept(a: Kept, b: Kept) -> bool {
     let before = a.leds;
     let after = b.leds;
-    a.baud == b.baud && (a.outputs == b.outputs && (a.ir == b.ir && check::same(&before, &after)))
+    a.baud == b.baud && (a.outputs == b.outputs && (a.ir == b.ir && line::same(&before, &after)))
 }
 
 fn same_song(a: Song, b: Song) -> bool {
     let before = a.notes;
     let after = b.notes;
-    a.len == b.len && check::same(&before, &after)
+    a.len == b.len && line::same(&before, &after)
 }
 
 fn same_table(a: [Song; 16], b: [Song; 16]) -> bool {
@@ -48,13 +48,13 @@ fn same_songs(a: Songs, b: Songs) -> bool {
 fn same_stream(a: Stream, b: Stream) -> bool {
     let before = a.ids;
     let after = b.ids;
-    a.count == b.count && (a.on == b.on && check::same(&before, &after))
+    a.count == b.count && (a.on == b.on && line::same(&before, &after))
 }
 
 fn same_held(a: Partial, b: Partial) -> bool {
     let before = a.bytes;
     let after = b.bytes;
-    a.count == b.count && (a.remaining == b.remaining && check::same(&before, &after))
+    a.count == b.count && (a.remaining == b.remaining && line::same(&before, &after))
 }
 
 fn same_driving(a: State, b: State) -> bool {

@@ -1,26 +1,28 @@
--- `cases::show::list` is safe and ends.
+-- `cases::table::which` is safe and ends.
 -- Assumes nothing.
 use Prim.Native.Nat.{_-_}
 use lib.ListN.{length}
 use borrow.Author.Needs.{needs}
-use Rattle.cases.proofs.show.list.Statement.{statement}
-use Rattle.cases.proofs.show.list.Tie as tie
+use Rattle.cases.proofs.table.which.Statement.{statement}
+use Rattle.cases.proofs.table.which.Tie as tie
 
 abbrev Inv-loop : tie.InvT-loop
-Inv-loop s n used₀ i₀ used i = Unit {0}
+Inv-loop word names at₀ k₀ at k = Unit {0}
 
 abbrev μ-loop : tie.MeasureT-loop
-μ-loop s n used₀ i₀ used i = length s - i
+μ-loop word names at₀ k₀ at k = length names - k
 
-pub list-spec : {M : Type 1} → statement M
-list-spec =
+pub which-spec : {M : Type 1} → statement M
+which-spec =
     tie.close
     (tie.spec
     Inv-loop
     μ-loop
     (λ c. search needs)
-    (λ c. search needs)
     (λ c κs. search needs)
+    (λ c. search needs)
+    (λ c. search needs)
+    (λ c. search needs)
     (λ c κs. search needs)
     (λ c. search needs)
     (λ c. search needs)
