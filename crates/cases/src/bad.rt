@@ -58,14 +58,14 @@ fn say_refused(state: State) -> usize {
 }
 
 // bad START | START | PLACE
-pub fn bad(session: Session, state: State, text: &[u8], cells: Cells) -> Session {
+pub fn bad(session: Session, state: State, text: &[u8], cells: Cells) {
     let widths = session.widths;
     let end = within(cells.two, text);
     let beside = plus(cells.one, 1);
     let good = start_from(session, &text[0..end], beside);
     let neighbour = good.state;
     if !good.ok {
-        return session;
+        return;
     }
     column(widths, 0, say_cell(text, cells.from, cells.one));
     column(widths, 1, say_refused(state));
@@ -74,5 +74,4 @@ pub fn bad(session: Session, state: State, text: &[u8], cells: Cells) -> Session
     let name = plus(say_cell(text, beside, end), say(b": "));
     column(widths, 2, plus(name, say_number(wide(ran.number))));
     place(text, cells);
-    session
 }

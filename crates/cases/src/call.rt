@@ -1,8 +1,6 @@
 // The board's calls, as a cell says them, and a case: one call from a record.
 use crate::record::say_after;
 use crate::record::say_record;
-use crate::session::Session;
-use crate::session::with_state;
 use crate::set::part_from;
 use crate::start::image;
 use crate::table::Cells;
@@ -59,20 +57,19 @@ fn as_ran(answer: Answer) -> Ran {
     }
 }
 
-// The call; of those that read no slice the number of bytes read is 0.
+// The call, with this buffer lent; of those that read no slice the number of bytes read is 0.
 pub fn give(call: Call, state: State, buffer: &mut [u8]) -> Ran {
     let image = image();
     let bytes = call.bytes;
     let kind = call.kind;
-    let room = within(call.room, buffer);
     match kind {
-        BYTE => as_ran(board::byte(state, bytes[0], &image, &mut buffer[0..room])),
+        BYTE => as_ran(board::byte(state, bytes[0], &image, buffer)),
         REPORT => as_ran(board::safety_report(state, call.drop, call.cliff, call.charger)),
-        TICK => as_ran(board::tick(state, &image, &mut buffer[0..room])),
+        TICK => as_ran(board::tick(state, &image, buffer)),
         SONG_END => as_ran(board::song_end(state)),
         _ => {
             let n = within(call.count, &bytes);
-            board::run(state, &bytes[0..n], &image, &mut buffer[0..room])
+            board::run(state, &bytes[0..n], &image, buffer)
         }
     }
 }
@@ -190,32 +187,32 @@ fn say_read(kind: u8, read: usize) -> usize {
 
 // Gives the call, and writes the line from the third column on: the number, the bytes that a run read, the answer; the record after; the place.
 pub fn say_result(
-    session: Session,
+    widths: [u8; 512],
     call: Call,
     before: State,
     text: &[u8],
     cells: Cells,
-) -> Session {
-    let widths = session.widths;
+) -> State {
     let mut buffer = [0u8; ROOM];
-    let ran = give(call, before, &mut buffer);
+    let lent: &mut [u8] = &mut buffer;
+    let room = within(call.room, lent);
+    let ran = give(call, before, &mut lent[0..room]);
     let after = ran.state;
     let number = plus(say_number(wide(ran.number)), say_read(call.kind, ran.read));
-    column(widths, 2, plus(number, say_wrote(&buffer, ran.length)));
+    column(widths, 2, plus(number, say_wrote(lent, ran.length)));
     column(widths, 3, say_after(before, after));
     place(text, cells);
-    with_state(session, 1, after)
+    after
 }
 
-// case START | CALL | PLACE
-pub fn case(session: Session, before: State, text: &[u8], cells: Cells) -> Session {
-    let widths = session.widths;
+// case START | CALL | PLACE; gives the record after it, or the one before it where the call is bad.
+pub fn case(widths: [u8; 512], number: usize, before: State, text: &[u8], cells: Cells) -> State {
     let end = within(cells.two, text);
-    let call = call_from(&text[0..end], plus(cells.one, 1), session.number);
+    let call = call_from(&text[0..end], plus(cells.one, 1), number);
     if !call.ok {
-        return session;
+        return before;
     }
     column(widths, 0, say_record(before));
     column(widths, 1, say_call(call, text, cells));
-    say_result(session, call, before, text, cells)
+    say_result(widths, call, before, text, cells)
 }

@@ -140,8 +140,7 @@ fn say_before(stopped: Stopped) -> usize {
 }
 
 // held START | NAMED | PLACE
-pub fn held(session: Session, state: State, text: &[u8], cells: Cells) -> Session {
-    let widths = session.widths;
+pub fn held(widths: [u8; 512], state: State, text: &[u8], cells: Cells) {
     column(widths, 0, words::say_mode(state.mode));
     column(widths, 1, say_held(state));
     column(widths, 2, say_cell(text, plus(cells.one, 1), cells.two));
@@ -151,5 +150,4 @@ pub fn held(session: Session, state: State, text: &[u8], cells: Cells) -> Sessio
     column(widths, 5, say_number(stopped.waited));
     column(widths, 6, say_before(stopped));
     place(text, cells);
-    session
 }

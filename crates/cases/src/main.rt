@@ -24,6 +24,7 @@ mod table;
 mod write;
 
 use session::Session;
+use session::with_state;
 use table::Cells;
 use terminal::say;
 use terminal::say_shown;
@@ -41,11 +42,26 @@ fn from_start(session: Session, kind: usize, text: &[u8], cells: Cells) -> Sessi
     if !begun.ok {
         return session;
     }
+    let widths = session.widths;
     match kind {
-        4 => call::case(session, state, text, cells),
-        5 => cut::held(session, state, text, cells),
-        6 => bad::bad(session, state, text, cells),
-        _ => write::write(session, state, text, cells),
+        4 => with_state(
+            session,
+            1,
+            call::case(widths, session.number, state, text, cells),
+        ),
+        5 => {
+            cut::held(widths, state, text, cells);
+            session
+        }
+        6 => {
+            bad::bad(session, state, text, cells);
+            session
+        }
+        _ => with_state(
+            session,
+            1,
+            write::write(widths, session.number, state, text, cells),
+        ),
     }
 }
 

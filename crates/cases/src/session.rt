@@ -26,27 +26,26 @@ pub struct Session {
     pub number: usize,
 }
 
-fn with_name(names: Names, text: &[u8], from: usize) -> Names {
+fn with_text(names: Names, text: &[u8]) -> Names {
+    let mut next = names;
     let mut kept = names.text;
-    let got = line::gather(text, from, &mut kept, names.size);
-    Names {
-        text: kept,
-        size: got.size,
-        count: plus(names.count, 1),
-        full: got.cut,
-    }
+    let got = line::gather(text, 0, &mut kept, names.size);
+    next.text = kept;
+    next.size = got.size;
+    next.full = got.cut;
+    next
 }
 
 pub fn opened() -> Session {
     let none = Names {
         text: [0u8; 512],
         size: 0,
-        count: 0,
+        count: 2,
         full: false,
     };
     Session {
         states: [state::power_on(); RECORDS],
-        names: with_name(with_name(none, b"off ", 0), b"then ", 0),
+        names: with_text(none, b"off then "),
         widths: [0u8; 512],
         number: 0,
     }
@@ -87,26 +86,30 @@ pub fn set_widths(session: Session, text: &[u8], from: usize) -> Session {
     next
 }
 
-// record NAME START; the name is kept with the blank behind it.
-pub fn name_record(session: Session, text: &[u8], from: usize) -> Session {
-    let word = line::next_word(text, from);
-    let start = word.start;
-    let end = word.end;
-    let begun = start_from(session, text, end);
-    if !begun.ok {
-        return session;
-    }
-    let state = begun.state;
+fn with_record(session: Session, name: &[u8], place: usize, state: State) -> Session {
     let names = session.names;
-    let k = index_of(names, &text[start..end]);
-    let after = within(plus(end, 1), text);
-    let more = with_name(names, &text[0..after], start);
+    let k = index_of(names, name);
+    let mut more = with_text(with_text(names, name), b" ");
+    more.count = plus(k, 1);
     if k != names.count || (k >= RECORDS || more.full) {
-        say_where(session.number, start);
+        say_where(session.number, place);
         say(b"the record is named already, or there is no room for it\n");
         return session;
     }
     let mut next = session;
     next.names = more;
     with_state(next, k, state)
+}
+
+// record NAME START
+pub fn name_record(session: Session, text: &[u8], from: usize) -> Session {
+    let word = line::next_word(text, from);
+    let start = word.start;
+    let end = word.end;
+    let begun = start_from(session, text, end);
+    let state = begun.state;
+    if begun.ok {
+        return with_record(session, &text[start..end], start, state);
+    }
+    session
 }
