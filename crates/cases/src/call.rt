@@ -1,188 +1,218 @@
-// A call of the board, and its line: the record before it, what was sent, what came back, the record after it, and where it stands in the papers.
-use crate::record::record;
-use crate::record::rest;
-use crate::show::column;
-use crate::show::digits;
-use crate::show::list;
-use crate::show::number;
-use crate::show::plus;
-use crate::show::text;
-use crate::show::wide;
+// The board's calls, as a cell says them, and a case: one call from a record.
+use crate::record::say_after;
+use crate::record::say_record;
+use crate::set::part_from;
+use crate::start::image;
+use crate::table::Cells;
+use crate::table::column;
+use crate::table::place;
+use crate::table::say_cell;
 use board::Answer;
+use board::Ran;
 use state::State;
+use terminal::bytes_from;
+use terminal::ends;
+use terminal::plus;
+use terminal::say;
+use terminal::say_bytes;
+use terminal::say_number;
+use terminal::say_where;
+use terminal::which;
+use terminal::wide;
+use terminal::within;
 
-// Packets 7 to 34: packet 29 is 2 25 and packet 13 is 0, as in the example that 001 prints; every other byte is its place and 100.
-pub fn image() -> [u8; 40] {
-    [
-        100,
-        101,
-        102,
-        103,
-        104,
-        105,
-        0,
-        107,
-        108,
-        109,
-        110,
-        111,
-        112,
-        113,
-        114,
-        115,
-        116,
-        117,
-        118,
-        119,
-        120,
-        121,
-        122,
-        123,
-        124,
-        125,
-        126,
-        127,
-        128,
-        129,
-        2,
-        25,
-        132,
-        133,
-        134,
-        135,
-        136,
-        137,
-        138,
-        139,
-    ]
+pub const BYTE: u8 = 0;
+
+pub const RUN: u8 = 1;
+
+pub const REPORT: u8 = 3;
+
+pub const TICK: u8 = 4;
+
+pub const SONG_END: u8 = 5;
+
+// The longest buffer that is lent.
+pub const ROOM: usize = 300;
+
+// A call: its kind, the bytes of a run, the flags of a report, and the length of the buffer lent with it. Not ok where a word was bad, and then it has been
+// said.
+pub struct Call {
+    pub kind: u8,
+    pub bytes: [u8; 512],
+    pub count: usize,
+    pub drop: bool,
+    pub cliff: bool,
+    pub charger: bool,
+    pub room: usize,
+    pub ok: bool,
 }
 
-// One byte with room enough, and the whole answer.
-pub fn byte(state: State, b: u8) -> Answer {
+fn as_ran(answer: Answer) -> Ran {
+    let state = answer.state;
+    Ran {
+        number: answer.number,
+        length: answer.length,
+        state,
+        read: 0,
+    }
+}
+
+// The call, with this buffer lent; of those that read no slice the number of bytes read is 0.
+pub fn give(call: Call, state: State, buffer: &mut [u8]) -> Ran {
     let image = image();
-    let mut buffer = [0u8; 300];
-    board::byte(state, b, &image, &mut buffer)
+    let bytes = call.bytes;
+    let kind = call.kind;
+    match kind {
+        BYTE => as_ran(board::byte(state, bytes[0], &image, buffer)),
+        REPORT => as_ran(board::safety_report(state, call.drop, call.cliff, call.charger)),
+        TICK => as_ran(board::tick(state, &image, buffer)),
+        SONG_END => as_ran(board::song_end(state)),
+        _ => {
+            let n = within(call.count, &bytes);
+            board::run(state, &bytes[0..n], &image, buffer)
+        }
+    }
 }
 
-// Feeds bytes one by one, as many frames as they are, and gives the record after them.
-pub fn fed(start: State, bytes: &[u8]) -> State {
-    let mut state = start;
-    let mut i = 0;
-    while i < bytes.len() {
-        let answer = byte(state, bytes[i]);
-        state = answer.state;
-        i += 1;
+// A call with no bytes and no flags.
+fn plain(kind: u8, room: usize, ok: bool) -> Call {
+    Call {
+        kind,
+        bytes: [0u8; 512],
+        count: 0,
+        drop: false,
+        cliff: false,
+        charger: false,
+        room,
+        ok,
     }
-    state
 }
 
-// Eight bytes are shown, and of a longer list the first six and how many there are.
-pub fn sent(bytes: &[u8]) -> usize {
-    if bytes.len() <= 8 {
-        return list(bytes, 8);
+fn report_of(text: &[u8], from: usize, number: usize) -> Call {
+    let mut call = plain(REPORT, 0, true);
+    let mut at = from;
+    let mut turns = text.len();
+    while turns > 0 && call.ok {
+        let word = line::next_word(text, at);
+        let start = word.start;
+        let end = word.end;
+        if start == end {
+            break;
+        }
+        call = flagged(call, which(&text[start..end], b"drop cliff charger"));
+        at = end;
+        turns -= 1;
     }
-    let shown = list(bytes, 6);
-    let dots = text(b" ..");
-    let many = number(bytes.len());
-    plus(plus(shown, dots), plus(many, text(b" bytes")))
+    if !call.ok {
+        say_where(number, from);
+        say(b"a report has the words drop, cliff and charger\n");
+    }
+    call
 }
 
-// The record after a call, and the line's end.
-fn ends(before: State, after: State, place: &[u8]) {
-    if state::same(before, after) {
-        column(text(b"unchanged"), 30);
-    } else {
-        let shown = record(after);
-        column(plus(shown, rest(before, after)), 30);
+fn flagged(call: Call, flag: usize) -> Call {
+    let mut next = call;
+    match flag {
+        0 => next.drop = true,
+        1 => next.cliff = true,
+        2 => next.charger = true,
+        _ => next.ok = false,
     }
-    text(place);
-    text(b"\n");
+    next
+}
+
+fn run_of(text: &[u8], from: usize, number: usize, room: usize) -> Call {
+    let read = bytes_from(text, from, number);
+    let bytes = read.values;
+    let mut call = plain(RUN, room, read.ok);
+    call.bytes = bytes;
+    call.count = read.count;
+    call
+}
+
+// A call with this room: tick, song-end, report with any of its words, or numbers for one run over them.
+fn call_with(text: &[u8], from: usize, number: usize, room: usize) -> Call {
+    let word = line::next_word(text, from);
+    let start = word.start;
+    let end = word.end;
+    let kind = which(&text[start..end], b"tick song-end report");
+    match kind {
+        0 => plain(TICK, room, ends(text, end, number)),
+        1 => plain(SONG_END, room, ends(text, end, number)),
+        2 => report_of(text, end, number),
+        _ => run_of(text, from, number, room),
+    }
+}
+
+fn call_from(text: &[u8], from: usize, number: usize) -> Call {
+    let word = line::next_word(text, from);
+    let start = word.start;
+    let end = word.end;
+    if !wire::same(&text[start..end], b"room") {
+        return call_with(text, from, number, ROOM);
+    }
+    let room = part_from(text, end, 301, number);
+    if !room.ok {
+        return plain(RUN, 0, false);
+    }
+    call_with(text, room.next, number, room.bits)
+}
+
+// A call as the cell says it; of a run of more than eight bytes the first six, and how many there are.
+fn say_call(call: Call, text: &[u8], cells: Cells) -> usize {
+    if call.kind != RUN || call.count <= 8 {
+        return say_cell(text, plus(cells.one, 1), cells.two);
+    }
+    let bytes = call.bytes;
+    let n = within(6, &bytes);
+    let shown = plus(say_bytes(&bytes[0..n]), say(b" .. "));
+    plus(shown, plus(say_number(call.count), say(b" bytes")))
 }
 
 // The bytes that an answer wrote.
-fn wrote(buffer: &[u8], length: usize) -> usize {
-    if length == 0 {
+pub fn say_wrote(buffer: &[u8], length: usize) -> usize {
+    let n = within(length, buffer);
+    if n == 0 {
         return 0;
     }
-    let word = text(b", wrote");
-    plus(word, list(buffer, length))
+    plus(say(b", wrote "), say_bytes(&buffer[0..n]))
 }
 
-// A run with this room.
-pub fn send_with(place: &[u8], start: State, bytes: &[u8], buffer: &mut [u8]) -> State {
-    let image = image();
-    column(record(start), 30);
-    column(sent(bytes), 25);
-    let ran = board::run(start, bytes, &image, buffer);
-    let after = ran.state;
-    let gave = digits(wide(ran.number));
-    let word = text(b", read");
-    let read = number(ran.read);
-    column(
-        plus(plus(gave, word), plus(read, wrote(buffer, ran.length))),
-        10,
-    );
-    ends(start, after, place);
-    after
-}
-
-// A run with room enough.
-pub fn send(place: &[u8], start: State, bytes: &[u8]) -> State {
-    let mut buffer = [0u8; 300];
-    send_with(place, start, bytes, &mut buffer)
-}
-
-// What a call gave that reads no bytes.
-fn gave(answer: Answer, start: State, place: &[u8]) -> State {
-    let after = answer.state;
-    column(digits(wide(answer.number)), 10);
-    ends(start, after, place);
-    after
-}
-
-// A name, where it is set.
-fn named(name: &[u8], is: bool) -> usize {
-    if is {
-        return text(name);
+fn say_read(kind: u8, read: usize) -> usize {
+    if kind != RUN {
+        return 0;
     }
-    0
+    plus(say(b", read "), say_number(read))
 }
 
-// A safety report: wheel drop, cliff, charger.
-pub fn report(place: &[u8], start: State, drop: bool, cliff: bool, charger: bool) -> State {
-    column(record(start), 30);
-    let word = text(b" report:");
-    let of_drop = named(b" drop", drop);
-    let of_cliff = named(b" cliff", cliff);
-    let of_charger = named(b" charger", charger);
-    column(plus(plus(word, of_drop), plus(of_cliff, of_charger)), 25);
-    gave(
-        board::safety_report(start, drop, cliff, charger),
-        start,
-        place,
-    )
-}
-
-// A tick with this room.
-pub fn tick_with(place: &[u8], start: State, buffer: &mut [u8]) -> State {
-    let image = image();
-    column(record(start), 30);
-    column(text(b" tick"), 25);
-    let answer = board::tick(start, &image, buffer);
-    let after = answer.state;
-    let gave = digits(wide(answer.number));
-    column(plus(gave, wrote(buffer, answer.length)), 10);
-    ends(start, after, place);
+// Gives the call, and writes the line from the third column on: the number, the bytes that a run read, the answer; the record after; the place.
+pub fn say_result(
+    widths: [u8; 512],
+    call: Call,
+    before: State,
+    text: &[u8],
+    cells: Cells,
+) -> State {
+    let mut buffer = [0u8; ROOM];
+    let lent: &mut [u8] = &mut buffer;
+    let room = within(call.room, lent);
+    let ran = give(call, before, &mut lent[0..room]);
+    let after = ran.state;
+    let number = plus(say_number(wide(ran.number)), say_read(call.kind, ran.read));
+    column(widths, 2, plus(number, say_wrote(lent, ran.length)));
+    column(widths, 3, say_after(before, after));
+    place(text, cells);
     after
 }
 
-pub fn tick(place: &[u8], start: State) -> State {
-    let mut buffer = [0u8; 300];
-    tick_with(place, start, &mut buffer)
-}
-
-pub fn song_end(place: &[u8], start: State) -> State {
-    column(record(start), 30);
-    column(text(b" song end"), 25);
-    gave(board::song_end(start), start, place)
+// case START | CALL | PLACE; gives the record after it, or the one before it where the call is bad.
+pub fn case(widths: [u8; 512], number: usize, before: State, text: &[u8], cells: Cells) -> State {
+    let end = within(cells.two, text);
+    let call = call_from(&text[0..end], plus(cells.one, 1), number);
+    if !call.ok {
+        return before;
+    }
+    column(widths, 0, say_record(before));
+    column(widths, 1, say_call(call, text, cells));
+    say_result(widths, call, before, text, cells)
 }

@@ -1,39 +1,153 @@
-// The cases of document 01 and the worked examples of the sources, run through the public calls. One line is a case: the record before the call, what was
-// sent, what came back, the record after it, and where it stands in the papers. What it writes is compared with the file `stdout`, which was checked by hand
-// against document 01.
+// The cases of document 01 and the worked examples of the sources, run through the public calls. The cases are data: the program reads them from standard input
+// and writes a table, one line a case, with where each stands in the papers. What it writes of `stdin` is compared with `stdout`, which was checked by hand
+// against document 01. The language is described at the head of `stdin`; in short:
+//
+//     = TEXT                              a heading; an empty line gives one, and a line that begins with # gives none
+//     widths N N ..                       the columns' widths from here on
+//     record NAME START                   a record by name
+//     case START | CALL | PLACE           one call from a record
+//     frame BYTES | DATA | PLACE          the frame table, in all four modes
+//     held START | NAMED | PLACE          the run table
+//     bad START | START | PLACE           a bad record and its good neighbour
+//     write START | COMMAND | PLACE       the writer, and the board on what it wrote
+//
+// A line that is bad is told, with its number and the place, and gives nothing else.
 mod bad;
 mod call;
-mod change;
-mod commands;
-mod frames;
+mod cut;
 mod record;
-mod runs;
-mod show;
-mod shown;
-mod slips;
+mod session;
+mod set;
 mod start;
-mod words;
-mod worked;
+mod table;
+mod write;
 
-use show::text;
+use session::Session;
+use session::with_state;
+use table::Cells;
+use terminal::say;
+use terminal::say_shown;
+use terminal::say_where;
+use terminal::within;
 
-fn legend() {
-    text(
-        b"A record is shown as mode, wheel order with its two numbers, duties of drivers 0, 1 and 2; after a call, with whatever else has changed.\n",
-    );
-    text(
-        b"A line: the record before | what was sent | the number that came back, the bytes read, the answer | the record after | the place in the papers\n\n",
-    );
+// The most bytes of a line that are read.
+const LONGEST: usize = 1024;
+
+// A line whose first cell is a record.
+fn from_start(session: Session, kind: usize, text: &[u8], cells: Cells) -> Session {
+    let end = within(cells.one, text);
+    let begun = start::start_from(session, &text[0..end], cells.from);
+    let state = begun.state;
+    if !begun.ok {
+        return session;
+    }
+    let widths = session.widths;
+    match kind {
+        4 => with_state(
+            session,
+            1,
+            call::case(widths, session.number, state, text, cells),
+        ),
+        5 => {
+            cut::held(widths, state, text, cells);
+            session
+        }
+        6 => {
+            bad::bad(session, state, text, cells);
+            session
+        }
+        _ => with_state(
+            session,
+            1,
+            write::write(widths, session.number, state, text, cells),
+        ),
+    }
 }
 
+fn by_cells(session: Session, kind: usize, text: &[u8], from: usize) -> Session {
+    let cells = table::cells_of(text, from, session.number);
+    if !cells.ok {
+        return session;
+    }
+    if kind == 3 {
+        return cut::frame(session, text, cells);
+    }
+    from_start(session, kind, text, cells)
+}
+
+fn heading(session: Session, text: &[u8], from: usize) -> Session {
+    table::say_words(text, from);
+    say(b"\n");
+    session
+}
+
+fn unknown(session: Session, word: &[u8], place: usize) -> Session {
+    say_where(session.number, place);
+    say_shown(word);
+    say(b" is no kind of line\n");
+    session
+}
+
+// A line by its first word; an empty one and a heading are written as they are.
+fn take_line(session: Session, text: &[u8]) -> Session {
+    let word = line::next_word(text, 0);
+    let start = word.start;
+    let end = word.end;
+    if start == end {
+        return heading(session, text, end);
+    }
+    if text[start] == 35 {
+        return session;
+    }
+    let kind = terminal::which(
+        &text[start..end],
+        b"= widths record frame case held bad write",
+    );
+    match kind {
+        0 => heading(session, text, end),
+        1 => session::set_widths(session, text, end),
+        2 => session::name_record(session, text, end),
+        3..=7 => by_cells(session, kind, text, end),
+        _ => unknown(session, &text[start..end], start),
+    }
+}
+
+fn told(session: Session, text: &[u8], size: usize, cut: bool, number: usize) -> Session {
+    let mut next = session;
+    next.number = number;
+    if cut {
+        say_where(number, LONGEST);
+        say(b"the line is longer than 1024 bytes and was not read\n");
+        return next;
+    }
+    let n = within(size, text);
+    take_line(next, &text[0..n])
+}
+
+fn finish(came: u8, number: usize) {
+    if came == terminal::FAILED {
+        say_where(number, 0);
+        say(b"after this line the input could not be read\n");
+    } else if number == 0 {
+        say(b"no input: nothing was read\n");
+    }
+}
+
+// A proved loop has to end, and nothing says that the input does: the turns count down from a number that no run uses up.
 fn main() {
-    legend();
-    shown::cases();
-    frames::cases();
-    runs::cases();
-    commands::cases();
-    bad::cases();
-    slips::cases();
-    words::cases();
-    worked::cases();
+    let mut kept = [0u8; LONGEST];
+    let text: &mut [u8] = &mut kept;
+    let mut session = session::opened();
+    let mut input = terminal::open();
+    let mut turns = u64::MAX;
+    while turns > 0 {
+        let got = terminal::next_line(input, text);
+        input = got.input;
+        if got.came != terminal::LINE {
+            finish(got.came, input.number);
+            break;
+        }
+        session = told(session, text, got.size, got.cut, input.number);
+        turns -= 1;
+    }
 }

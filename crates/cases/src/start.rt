@@ -1,54 +1,127 @@
-// The records from which the cases start. Each is reached from power-on by bytes.
-use crate::call::fed;
+// The record that a cell says: a name, and then from left to right bytes, fed one by one, and parts set by hand.
+use crate::session::Session;
+use crate::session::index_of;
+use crate::session::state_at;
+use crate::set::SETTINGS;
+use crate::set::limits_of;
+use crate::set::part_from;
+use crate::set::set;
+use crate::set::setting_of;
+use board::Answer;
+use line::Number;
 use state::State;
+use terminal::bytes_from;
+use terminal::say;
+use terminal::say_shown;
+use terminal::say_where;
 
-pub fn passive() -> State {
-    fed(state::power_on(), &[128])
+// A record; not ok where a word was bad, and then it has been said. `next` is the place after the words that were read.
+pub struct Begun {
+    pub state: State,
+    pub next: usize,
+    pub ok: bool,
 }
 
-pub fn safe() -> State {
-    fed(passive(), &[131])
+// Packets 7 to 34: packet 29 is 2 25 and packet 13 is 0, as in the example that 001 prints; every other byte is its place and 100.
+pub fn image() -> [u8; 40] {
+    *b"defghi\x00klmnopqrstuvwxyz{|}~\x7f\x80\x81\x02\x19\x84\x85\x86\x87\x88\x89\x8a\x8b"
 }
 
-pub fn full() -> State {
-    fed(passive(), &[132])
+// One byte with room enough.
+pub fn give_byte(state: State, b: u8) -> Answer {
+    let image = image();
+    let mut buffer = [0u8; 300];
+    board::byte(state, b, &image, &mut buffer)
 }
 
-// Song 0 has two notes, the list is packet 7 and streaming is off.
-fn stocked() -> State {
-    let with_song = fed(passive(), &[140, 0, 2, 60, 32, 64, 16]);
-    fed(with_song, &[148, 1, 7, 150, 0])
-}
-
-// In motion: velocity 200, radius 500, duties 128, 0 and 64.
-fn driven(state: State) -> State {
-    fed(state, &[137, 0, 200, 1, 244, 144, 64, 0, 128])
-}
-
-// A record of each mode, with what is there to change: in Safe and Full in motion, and in Off as at power-on.
-pub fn in_mode(mode: u8) -> State {
-    match mode {
-        command::OFF => state::power_on(),
-        command::PASSIVE => stocked(),
-        command::SAFE => driven(fed(stocked(), &[131])),
-        _ => driven(fed(stocked(), &[132])),
+// A number is a byte for the board.
+fn feed(state: State, text: &[u8], from: usize, number: usize) -> Begun {
+    let read = bytes_from(text, from, number);
+    let values = read.values;
+    let answer = give_byte(state, values[0]);
+    let next = answer.state;
+    Begun {
+        state: next,
+        next: text.len(),
+        ok: read.ok,
     }
 }
 
-// Song 15 has sixteen notes.
-fn long_song(state: State) -> State {
-    let head = fed(state, &[140, 15, 16, 1, 2, 3, 4, 5, 6, 7, 8]);
-    let half = fed(head, &[9, 10, 11, 12, 13, 14, 15, 16, 17, 18, 19, 20]);
-    fed(half, &[21, 22, 23, 24, 25, 26, 27, 28, 29, 30, 31, 32])
+// A part of the record, and its numbers.
+fn put(state: State, setting: usize, text: &[u8], from: usize, number: usize) -> Begun {
+    let limits = limits_of(setting);
+    let place = part_from(text, from, limits.place, number);
+    let inner = part_from(text, place.next, limits.inner, number);
+    let value = part_from(text, inner.next, limits.value, number);
+    let next = set(state, setting, place.bits, inner.bits, value);
+    Begun {
+        state: next,
+        next: value.next,
+        ok: place.ok && (inner.ok && value.ok),
+    }
 }
 
-// Full, in motion, a song playing, a list streamed, a value in every part, and half a Drive read.
-pub fn moving() -> State {
-    let coded = fed(
-        passive(),
-        &[129, 7, 132, 139, 255, 0, 128, 147, 5, 151, 255],
-    );
-    let singing = fed(long_song(coded), &[140, 0, 2, 60, 32, 64, 16, 141, 0]);
-    let streaming = fed(singing, &[148, 2, 29, 13]);
-    fed(driven(streaming), &[137, 0])
+fn step(state: State, text: &[u8], from: usize, number: usize) -> Begun {
+    let word = line::next_word(text, from);
+    let start = word.start;
+    let end = word.end;
+    let value = line::signed(&text[start..end]);
+    let Number::NotANumber = value else {
+        return feed(state, &text[0..end], start, number);
+    };
+    let setting = setting_of(&text[start..end]);
+    if setting < SETTINGS {
+        return put(state, setting, text, end, number);
+    }
+    say_where(number, start);
+    say_shown(&text[start..end]);
+    say(b" is no part of a record\n");
+    Begun {
+        state,
+        next: end,
+        ok: false,
+    }
+}
+
+fn steps(start: State, text: &[u8], from: usize, number: usize) -> Begun {
+    let mut state = start;
+    let mut at = from;
+    let mut ok = true;
+    let mut turns = text.len();
+    while turns > 0 && ok {
+        let word = line::next_word(text, at);
+        if word.start == word.end {
+            break;
+        }
+        let made = step(state, text, at, number);
+        state = made.state;
+        ok = made.ok;
+        at = made.next;
+        turns -= 1;
+    }
+    Begun {
+        state,
+        next: at,
+        ok,
+    }
+}
+
+pub fn start_from(session: Session, text: &[u8], from: usize) -> Begun {
+    let word = line::next_word(text, from);
+    let start = word.start;
+    let end = word.end;
+    let names = session.names;
+    let k = index_of(names, &text[start..end]);
+    let state = state_at(session, k);
+    if start < end && k < names.count {
+        return steps(state, text, end, session.number);
+    }
+    say_where(session.number, start);
+    say_shown(&text[start..end]);
+    say(b" names no record\n");
+    Begun {
+        state,
+        next: end,
+        ok: false,
+    }
 }

@@ -3,13 +3,13 @@ use crate::page::Fault;
 use crate::page::Page;
 use crate::page::bad;
 use crate::page::find;
-use crate::page::place_among;
 use crate::page::put;
 use command::Message;
 use state::State;
 use terminal::bytes_from;
 use terminal::ends;
 use terminal::plus;
+use terminal::which;
 use terminal::wide;
 use terminal::within;
 
@@ -137,8 +137,8 @@ fn set_room(page: Page, room: u8) -> Page {
 // The acts that take one number.
 fn with_one(page: Page, act: usize, value: u8) -> Page {
     match act {
-        3 => set_mode(page, value),
-        4 => set_room(page, value),
+        2 => set_mode(page, value),
+        3 => set_room(page, value),
         _ => send(page, value, b"", 0),
     }
 }
@@ -151,12 +151,12 @@ fn with_bytes(page: Page, act: usize, text: &[u8], from: usize) -> Page {
     }
     let values = read.values;
     let n = within(read.count, &values);
-    if act == 1 {
+    if act == 0 {
         let mut next = page;
         next.named = false;
         return give(next, &values[0..n]);
     }
-    if act == 2 {
+    if act == 1 {
         return set_image(page, &values[0..n], from);
     }
     if n != 1 {
@@ -168,10 +168,10 @@ fn with_bytes(page: Page, act: usize, text: &[u8], from: usize) -> Page {
 // The acts that stand alone.
 fn alone(page: Page, act: usize) -> Page {
     match act {
-        6 => power_on(page),
-        7 => tick(page),
-        8 => report(page, true, false, false),
-        9 => report(page, false, true, false),
+        5 => power_on(page),
+        6 => tick(page),
+        7 => report(page, true, false, false),
+        8 => report(page, false, true, false),
         _ => report(page, false, false, true),
     }
 }
@@ -182,14 +182,14 @@ fn by_name(page: Page, text: &[u8], start: usize, word: &[u8], end: usize) -> Pa
     if op != 0 {
         return send(page, op, text, end);
     }
-    let act = place_among(
+    let act = which(
         word,
         b"bytes image mode room opcode power-on tick wheel-drop cliff charger",
     );
-    if act == 0 {
+    if act >= 10 {
         return bad(page, start, Fault::Act);
     }
-    if act < 6 {
+    if act < 5 {
         return with_bytes(page, act, text, end);
     }
     if !ends(text, end, page.line) {

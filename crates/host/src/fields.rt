@@ -12,7 +12,6 @@ use crate::page::Fault;
 use crate::page::Page;
 use crate::page::find;
 use crate::page::mark;
-use crate::page::place_among;
 use crate::page::say_fault;
 use command::Command;
 use frame::Length;
@@ -24,6 +23,7 @@ use terminal::say;
 use terminal::say_bytes;
 use terminal::say_joined;
 use terminal::say_number;
+use terminal::which;
 use terminal::wide;
 use terminal::within;
 
@@ -140,9 +140,9 @@ fn say_listed(page: Page, name: usize, number: usize, text: &[u8], from: usize) 
     let answer = page.answer;
     let n = within(page.length, &answer);
     match name {
-        1 => say_picked(&all[start..], number, text, from),
-        2 => say_picked(&all[0..start], number, text, from),
-        3 => say_picked(&answer[0..n], number, text, from),
+        0 => say_picked(&all[start..], number, text, from),
+        1 => say_picked(&all[0..start], number, text, from),
+        2 => say_picked(&answer[0..n], number, text, from),
         _ => say_check(&answer[0..n]),
     }
 }
@@ -191,33 +191,33 @@ fn say_yes(is: bool) -> usize {
 fn say_left(page: Page, name: usize) {
     let state = page.state;
     match name {
-        7 => say_data(opcode(page)),
-        8 => say_number(wide(page.written)),
-        9 => say_number(wide(page.number)),
-        10 => say_number(page.length),
-        11 => say_number(page.room),
-        12 => words::say_mode(page.was),
-        13 => words::say_mode(state.mode),
-        14 => say_yes(motors_off(state)),
+        6 => say_data(opcode(page)),
+        7 => say_number(wide(page.written)),
+        8 => say_number(wide(page.number)),
+        9 => say_number(page.length),
+        10 => say_number(page.room),
+        11 => words::say_mode(page.was),
+        12 => words::say_mode(state.mode),
+        13 => say_yes(motors_off(state)),
         _ => say_number(to_idle(state)),
     }
     ;
 }
 
-// A field by its name: 1 to 4 are bytes, 5 and 6 speak of the command, 16 is the row's own.
+// A field by its name: 0 to 3 are bytes, 4 and 5 speak of the command, 15 is the row's own.
 fn field(page: Page, number: usize, text: &[u8], from: usize, rest: &[u8]) {
     let word = line::next_word(text, from);
     let start = word.start;
     let end = word.end;
-    let name = place_among(
+    let name = which(
         &text[start..end],
         b"sent before answer check value modes data written number length room was mode motors stop rest",
     );
-    if name == 0 {
+    if name >= 16 {
         say_fault(number, start, Fault::Field);
         return;
     }
-    if name < 5 {
+    if name < 4 {
         say_listed(page, name, number, text, end);
         return;
     }
@@ -225,9 +225,9 @@ fn field(page: Page, number: usize, text: &[u8], from: usize, rest: &[u8]) {
         return;
     }
     match name {
-        5 => say_command(page),
-        6 => say_modes(page),
-        16 => {
+        4 => say_command(page),
+        5 => say_modes(page),
+        15 => {
             say(rest);
         }
         _ => say_left(page, name),

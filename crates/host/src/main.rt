@@ -26,7 +26,6 @@ use page::Fault;
 use page::Page;
 use page::bad;
 use page::find;
-use page::place_among;
 use page::put;
 use terminal::plus;
 use terminal::say;
@@ -69,11 +68,11 @@ fn direct(page: Page, text: &[u8]) -> Page {
     let word = line::next_word(text, 0);
     let start = word.start;
     let end = word.end;
-    match place_among(&text[start..end], b"@# @do @form @row") {
-        1 => page,
-        2 => perform(page, text, end),
-        3 => set_form(page, text),
-        4 => row(page, text, end),
+    match terminal::which(&text[start..end], b"@# @do @form @row") {
+        0 => page,
+        1 => perform(page, text, end),
+        2 => set_form(page, text),
+        3 => row(page, text, end),
         _ => bad(page, start, Fault::Directive),
     }
 }

@@ -143,25 +143,3 @@ pub fn put(bytes: &[u8], buffer: &mut [u8], at: usize) -> bool {
     wire::put_part(bytes, 0, bytes.len(), buffer, at);
     true
 }
-
-// A word's place in a list of words, from 1; 0 where it is none of them.
-pub fn place_among(word: &[u8], words: &[u8]) -> usize {
-    let mut at = 0;
-    let mut place = 1;
-    let mut turns = words.len();
-    while turns > 0 {
-        let one = line::next_word(words, at);
-        let start = one.start;
-        let end = one.end;
-        if start == end {
-            return 0;
-        }
-        if wire::same(word, &words[start..end]) {
-            return place;
-        }
-        at = end;
-        place = plus(place, 1);
-        turns -= 1;
-    }
-    0
-}

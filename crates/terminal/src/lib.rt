@@ -1,6 +1,7 @@
 // What the programs here share: lines from standard input, the numbers of a line with what is said of bad ones, and text to standard output. What is read and
 // written no contract can say; the work is in `line` and in the libraries that the programs call.
 mod input;
+mod names;
 mod numbers;
 mod output;
 
@@ -11,6 +12,7 @@ pub use input::LINE;
 pub use input::Line;
 pub use input::next_line;
 pub use input::open;
+pub use names::which;
 pub use numbers::Bytes;
 pub use numbers::MOST;
 pub use numbers::Signed;

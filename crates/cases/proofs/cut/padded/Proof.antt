@@ -1,24 +1,22 @@
--- `cases::change::ids_of` is safe and ends.
+-- `cases::cut::padded` is safe and ends.
 -- Assumes nothing.
 use Prim.Native.Nat.{_-_}
-use lib.ListN.{length}
 use borrow.Author.Needs.{needs}
-use Rattle.cases.proofs.change.ids_of.Statement.{statement}
-use Rattle.cases.proofs.change.ids_of.Tie as tie
+use Rattle.cases.proofs.cut.padded.Statement.{statement}
+use Rattle.cases.proofs.cut.padded.Tie as tie
 
 abbrev Inv-loop : tie.InvT-loop
-Inv-loop bytes ids₀ i₀ ids i = Unit {0}
+Inv-loop count head bytes₀ i₀ bytes i = Unit {0}
 
 abbrev μ-loop : tie.MeasureT-loop
-μ-loop bytes ids₀ i₀ ids i = length bytes - i
+μ-loop count head bytes₀ i₀ bytes i = 512 - i
 
-pub ids-of-spec : {M : Type 1} → statement M
-ids-of-spec =
+pub padded-spec : {M : Type 1} → statement M
+padded-spec =
     tie.close
     (tie.spec
     Inv-loop
     μ-loop
-    (λ c. search needs)
     (λ c. search needs)
     (λ c. search needs)
     (λ c. search needs)

@@ -1,17 +1,19 @@
--- `host::page::place_among` is safe and ends.
+-- `terminal::names::which` is safe and ends.
 -- Assumes nothing.
+use Prim.Native.Nat.{_-_}
+use lib.ListN.{length}
 use borrow.Author.Needs.{needs}
-use Rattle.host.proofs.page.place_among.Statement.{statement}
-use Rattle.host.proofs.page.place_among.Tie as tie
+use Rattle.terminal.proofs.names.which.Statement.{statement}
+use Rattle.terminal.proofs.names.which.Tie as tie
 
 abbrev Inv-loop : tie.InvT-loop
-Inv-loop word words at₀ place₀ turns₀ at place turns = Unit {0}
+Inv-loop word names at₀ k₀ at k = Unit {0}
 
 abbrev μ-loop : tie.MeasureT-loop
-μ-loop word words at₀ place₀ turns₀ at place turns = turns
+μ-loop word names at₀ k₀ at k = length names - k
 
-pub place-among-spec : {M : Type 1} → statement M
-place-among-spec =
+pub which-spec : {M : Type 1} → statement M
+which-spec =
     tie.close
     (tie.spec
     Inv-loop
@@ -21,10 +23,8 @@ place-among-spec =
     (λ c. search needs)
     (λ c. search needs)
     (λ c. search needs)
-    (λ c. search needs)
     (λ c κs. search needs)
     (λ c. search needs)
-    (λ c κs. search needs)
     (λ c. search needs)
     (λ c. search needs)
     (λ c. search needs)

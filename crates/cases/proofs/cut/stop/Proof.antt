@@ -1,9 +1,9 @@
--- `cases::runs::stop` is safe and ends.
+-- `cases::cut::stop` is safe and ends.
 -- Assumes nothing.
 use Prim.Native.Nat.{_-_}
 use borrow.Author.Needs.{needs}
-use Rattle.cases.proofs.runs.stop.Statement.{statement}
-use Rattle.cases.proofs.runs.stop.Tie as tie
+use Rattle.cases.proofs.cut.stop.Statement.{statement}
+use Rattle.cases.proofs.cut.stop.Tie as tie
 
 abbrev Inv-loop : tie.InvT-loop
 Inv-loop state₀ number₀ before₀ waited₀ at₀ state number before waited at = Unit {0}
@@ -18,6 +18,7 @@ stop-spec =
     Inv-loop
     μ-loop
     (λ c. search needs)
+    (λ c κs. search needs)
     (λ c κs. search needs)
     (λ c κs. search needs)
     (λ c κs. search needs)

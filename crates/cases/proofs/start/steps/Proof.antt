@@ -1,0 +1,27 @@
+-- `cases::start::steps` is safe and ends.
+-- Assumes nothing.
+use borrow.Author.Needs.{needs}
+use Rattle.cases.proofs.start.steps.Statement.{statement}
+use Rattle.cases.proofs.start.steps.Tie as tie
+
+abbrev Inv-loop : tie.InvT-loop
+Inv-loop text from number state₀ at₀ ok₀ turns₀ state at ok turns = Unit {0}
+
+abbrev μ-loop : tie.MeasureT-loop
+μ-loop text from number state₀ at₀ ok₀ turns₀ state at ok turns = turns
+
+pub steps-spec : {M : Type 1} → statement M
+steps-spec =
+    tie.close
+    (tie.spec
+    Inv-loop
+    μ-loop
+    (λ c. search needs)
+    (λ c κs. search needs)
+    (λ c κs. search needs)
+    (λ c. search needs)
+    (λ c. search needs)
+    (λ c. search needs)
+    (λ c. search needs)
+    (λ c. search needs)
+    (λ c. search needs))
