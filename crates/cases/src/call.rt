@@ -158,17 +158,6 @@ fn call_from(text: &[u8], from: usize, number: usize) -> Call {
     call_with(text, room.next, number, room.bits)
 }
 
-// A call as the cell says it; of a run of more than eight bytes the first six, and how many there are.
-fn say_call(call: Call, text: &[u8], cells: Cells) -> usize {
-    if call.kind != RUN || call.count <= 8 {
-        return say_cell(text, plus(cells.one, 1), cells.two);
-    }
-    let bytes = call.bytes;
-    let n = within(6, &bytes);
-    let shown = plus(say_bytes(&bytes[0..n]), say(b" .. "));
-    plus(shown, plus(say_number(call.count), say(b" bytes")))
-}
-
 // The bytes that an answer wrote.
 pub fn say_wrote(buffer: &[u8], length: usize) -> usize {
     let n = within(length, buffer);
@@ -213,6 +202,6 @@ pub fn case(widths: [u8; 512], number: usize, before: State, text: &[u8], cells:
         return before;
     }
     column(widths, 0, say_record(before));
-    column(widths, 1, say_call(call, text, cells));
+    column(widths, 1, say_cell(text, plus(cells.one, 1), end));
     say_result(widths, call, before, text, cells)
 }
