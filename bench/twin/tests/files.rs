@@ -1,0 +1,180 @@
+//! Files of calls, whole and malformed.
+
+use twin::board::Board;
+use twin::cover::Cover;
+use twin::layout;
+use twin::perform::{perform, Summary, Trace};
+
+/// What is written of a file: the summary's line or the trace's lines, and the
+/// fault's line if there is one.
+fn summary(bytes: &[u8], bare: bool) -> String {
+    let mut summary = Summary::new(bare);
+    let fault = perform(bytes, &mut summary).unwrap();
+    let mut out = Vec::new();
+    summary.write_line(&mut out).unwrap();
+    let line = String::from_utf8(out).unwrap();
+    match fault {
+        None => line,
+        Some(fault) => format!("{line}{fault}\n"),
+    }
+}
+
+fn trace(bytes: &[u8]) -> String {
+    let mut out = Vec::new();
+    let fault = perform(bytes, &mut Trace::new(&mut out)).unwrap();
+    let lines = String::from_utf8(out).unwrap();
+    match fault {
+        None => lines,
+        Some(fault) => format!("{lines}{fault}\n"),
+    }
+}
+
+/// The digest as the paper words it, a byte at a time.
+fn digest(bytes: &[u8]) -> u64 {
+    bytes.iter().fold(1, |digest, &byte| {
+        (digest * 16777619 + u64::from(byte) + 1) % 4294967291
+    })
+}
+
+#[test]
+fn empty_file() {
+    let line = "calls 0 numbers 0 0 0 0 0 0 0 0 0 0 bytes 0 digest 1\n";
+    assert_eq!(summary(&[], false), line);
+    assert_eq!(summary(&[], true), line);
+    assert_eq!(trace(&[]), "");
+}
+
+#[test]
+fn tiny_file() {
+    // Start; then a query of packets 35 and 36 by a run.
+    let file = [1, 128, 129, 0, 5, 149, 2, 35, 36, 200];
+    let mut board = Board::power_on();
+    board.mode = 1;
+    let record = layout::state_bytes(&board);
+    let mut told = vec![0, 0, 0, 0, 1];
+    told.extend_from_slice(&record);
+    told.extend_from_slice(&[0, 0, 2, 0, 4, 1, 0]);
+    told.extend_from_slice(&record);
+    let counts = "calls 2 numbers 2 0 0 0 0 0 0 0 0 0 bytes 2 digest";
+    let expected = format!("{counts} {}\n", digest(&told));
+    assert_eq!(summary(&file, false), expected);
+    let bare = digest(&[0, 0, 0, 0, 1, 0, 0, 2, 0, 4, 1, 0]);
+    assert_eq!(summary(&file, true), format!("{counts} {bare}\n"));
+    let hex: String = record.iter().map(|byte| format!("{byte:02x}")).collect();
+    assert_eq!(trace(&file), format!("0 0 1 - {hex}\n0 2 4 0100 {hex}\n"));
+}
+
+#[test]
+fn first_digest_by_hand() {
+    // One tick in Off: 3, 0, 0, 0, 0. The first step is 16777619 + 4.
+    assert_eq!(digest(&[3]), 16777623);
+    let mut expected = 16777623u64;
+    for _ in 0..4 {
+        expected = (expected * 16777619 + 1) % 4294967291;
+    }
+    let line = format!("calls 1 numbers 0 0 0 1 0 0 0 0 0 0 bytes 0 digest {expected}\n");
+    assert_eq!(summary(&[3], true), line);
+}
+
+#[test]
+fn settings_hold_for_the_calls_after_them() {
+    let mut file = vec![1, 128];
+    file.push(5);
+    file.extend_from_slice(&[9; 40]);
+    file.extend_from_slice(&[130, 0, 1, 129, 0, 2, 142, 7, 129, 0, 2, 142, 19]);
+    let mut bad = Board::power_on();
+    bad.mode = 9;
+    file.push(131);
+    file.extend_from_slice(&layout::state_bytes(&bad));
+    file.extend_from_slice(&[1, 128, 129, 0, 0, 2, 7, 3, 4]);
+    file.push(132);
+    let mut message = [0; 40];
+    message[0] = 128;
+    file.extend_from_slice(&message);
+    let trace = trace(&file);
+    let heads: Vec<String> = trace
+        .lines()
+        .map(|line| line.rsplit_once(' ').unwrap().0.to_string())
+        .collect();
+    let expected = [
+        "0 0 1 -", "0 1 2 09", "7 0 2 -", "8 0 0 -", "8 0 0 -", "8 0 0 -", "8 0 0 -", "8 0 0 -",
+        "0 1 0 80",
+    ];
+    assert_eq!(heads, expected);
+    assert!(trace.lines().last().unwrap().contains(" 09"));
+}
+
+#[test]
+fn malformed_files() {
+    let mut state = vec![131];
+    state.extend_from_slice(&layout::state_bytes(&Board::power_on()));
+    let mut playing = state.clone();
+    playing[1 + 544] = 2;
+    let mut streaming = state.clone();
+    streaming[1 + 562] = 255;
+    let cut_and_wrong = &playing[..playing.len() - 1];
+    let rows: [(&[u8], &str); 26] = [
+        (&[0], "unknown kind"),
+        (&[6, 1, 1], "unknown kind"),
+        (&[128], "unknown kind"),
+        (&[133], "unknown kind"),
+        (&[255], "unknown kind"),
+        (&[1], "cut short"),
+        (&[2], "cut short"),
+        (&[2, 8], "flags above 7"),
+        (&[2, 255, 1], "flags above 7"),
+        (&[5], "cut short"),
+        (&[5; 40], "cut short"),
+        (&[129], "cut short"),
+        (&[129, 4], "cut short"),
+        (&[129, 255], "cut short"),
+        (&[129, 0, 2, 1], "cut short"),
+        (&[129, 4, 0, 1], "cut short"),
+        (&[129, 4, 1], "run above 1024"),
+        (&[129, 255, 255, 1, 1], "run above 1024"),
+        (&[130, 4], "cut short"),
+        (&[130, 4, 1], "room above 1024"),
+        (&[131], "cut short"),
+        (&state[..602], "cut short"),
+        (cut_and_wrong, "cut short"),
+        (&playing, "neither 0 nor 1"),
+        (&streaming, "neither 0 nor 1"),
+        (&[132; 40], "cut short"),
+    ];
+    for (fault, why) in rows {
+        let mut file = vec![1, 128, 3];
+        let whole = summary(&file, false);
+        let whole_trace = trace(&file);
+        file.extend_from_slice(fault);
+        let last = format!("offset 3: {why}\n");
+        assert_eq!(summary(&file, false), format!("{whole}{last}"));
+        assert_eq!(trace(&file), format!("{whole_trace}{last}"));
+    }
+}
+
+#[test]
+fn cover_counts() {
+    let mut bad = Board::power_on();
+    bad.baud = 12;
+    let mut file = vec![1, 128, 1, 131, 129, 0, 2, 147, 5];
+    file.push(131);
+    file.extend_from_slice(&layout::state_bytes(&bad));
+    file.extend_from_slice(&[3, 4]);
+    let mut cover = Cover::new();
+    assert_eq!(perform(&file, &mut cover).unwrap(), None);
+    let mut out = Vec::new();
+    cover.write_table(&mut out).unwrap();
+    let table = String::from_utf8(out).unwrap();
+    let met: Vec<&str> = table.lines().filter(|line| !line.ends_with(" 0")).collect();
+    let expected = [
+        "byte 0 2",
+        "run 0 1",
+        "tick 8 1",
+        "song-end 8 1",
+        "done 128 Off 1",
+        "done 131 Passive 1",
+        "done 147 Safe 1",
+        "bad baud 2",
+    ];
+    assert_eq!(met, expected);
+}

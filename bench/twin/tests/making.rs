@@ -1,0 +1,63 @@
+//! Made files: the same from the same seed, whole, and with as many calls as
+//! were asked for.
+
+use twin::file::{Record, Records};
+use twin::make::{make, KINDS};
+
+fn made(kind: &str, seed: u64, count: u64) -> Vec<u8> {
+    let mut bytes = Vec::new();
+    assert!(make(kind, seed, count, &mut bytes).unwrap(), "{kind}");
+    bytes
+}
+
+/// The number of calls of a whole file.
+fn calls(bytes: &[u8]) -> u64 {
+    let mut records = Records::new(bytes);
+    let mut calls = 0;
+    while let Some(record) = records.next_record().expect("a made file is whole") {
+        calls += u64::from(matches!(record, Record::Call(_)));
+    }
+    calls
+}
+
+#[test]
+fn kinds() {
+    for (kind, _) in KINDS {
+        let bytes = made(kind, 5, 3000);
+        assert_eq!(calls(&bytes), 3000, "{kind}");
+        assert_eq!(bytes, made(kind, 5, 3000), "{kind}");
+        assert_ne!(bytes, made(kind, 6, 3000), "{kind}");
+    }
+}
+
+#[test]
+fn fixed_forms() {
+    assert_eq!(calls(&made("held-base", 1, 20)), 0);
+    for length in ["1", "64", "510"] {
+        assert_eq!(calls(&made(&format!("held-run:{length}"), 1, 20)), 20);
+    }
+    for ids in ["1", "16"] {
+        assert_eq!(calls(&made(&format!("query-list:{ids}"), 1, 20)), 20);
+    }
+    for unknown in ["", "vali", "held-run:511", "query-list:17", "malformed:x"] {
+        assert!(!make(unknown, 1, 1, &mut Vec::new()).unwrap(), "{unknown}");
+    }
+}
+
+#[test]
+fn malformed_forms() {
+    let names = String::from_utf8(made("malformed:list", 0, 0)).unwrap();
+    assert!(names.lines().count() > 20);
+    for name in names.lines() {
+        let bytes = made(&format!("malformed:{name}"), 1, 10);
+        let mut records = Records::new(&bytes);
+        let fault = loop {
+            match records.next_record() {
+                Ok(Some(_)) => {}
+                Ok(None) => panic!("{name} is whole"),
+                Err(fault) => break fault,
+            }
+        };
+        assert!(fault.offset > 0);
+    }
+}
