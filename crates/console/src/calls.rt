@@ -60,7 +60,10 @@ pub fn give_run(session: Session, bytes: &[u8]) -> Session {
     let image = session.image;
     let state = session.state;
     let ran = board::run(state, bytes, &image, &mut lent[0..room]);
-    say(b"run ");
+    say(b"run");
+    if bytes.len() > 0 {
+        say(b" ");
+    }
     say_bytes(bytes);
     say_answer(ran.number, ran.read, ran.length, lent);
     let next = ran.state;

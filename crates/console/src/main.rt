@@ -25,10 +25,10 @@ fn say_help() {
           run N N ..                  one run over these bytes\n\
           report drop cliff charger   a safety report with any of the three words\n\
           tick, song-end              those calls\n\
-          power-on                    the record as at power-on\n\
-          room N                      the lent buffer's length, 0 to 1024\n\
-          image N ..                  the 40 bytes of the sensor image\n\
-          state, help                 the record in one line, and this\n",
+          power-on                    the record as at power-on; room and image stay\n\
+          room N                      the lent buffer's length, 0 to 1024, at first 832\n\
+          image N ..                  the 40 bytes of the sensor image, at first all 0\n\
+          state, help                 the record, and this\n",
     );
     say(
         b"A command by name is written as a host would, and its bytes are given one at a time:\n\
@@ -36,6 +36,10 @@ fn say_help() {
           drive 200 500 (velocity, radius), direct 500 -500 (right, left), drivers 7, duties 32 0 128 (drivers 2, 1, 0)\n\
           leds 8 0 128, outputs 5, infrared 142, baud 10, song 0 60 32 64 32 (number, notes), play 0\n\
           sensors 35, list 9 13, stream 29 13, pause 0\n",
+    );
+    say(
+        b"Words are in lower case, and a line has at most 1024 bytes. A bad line is told and does nothing. A call is one line; a line `now` follows where it\n\
+          changed the record. The end of input ends the console.\n",
     );
 }
 
@@ -227,6 +231,7 @@ fn alone(session: Session, word: &[u8]) -> Session {
     if wire::same(word, b"state") {
         let state = session.state;
         show::say_state(state);
+        show::say_rest(state);
         return session;
     }
     say_help();
@@ -300,6 +305,9 @@ fn read_all(session: Session) {
 }
 
 fn main() {
+    if libc::isatty(libc::STDIN_FILENO) == 1 {
+        say(b"A board at power-on. `help` lists the words; the end of input ends it.\n");
+    }
     let state = state::power_on();
     read_all(Session {
         state,

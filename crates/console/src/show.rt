@@ -1,5 +1,9 @@
 // What the console writes of a call and of a record.
+use frame::Partial;
+use state::Kept;
 use state::Motors;
+use state::Song;
+use state::Songs;
 use state::State;
 use state::Stream;
 use terminal::say;
@@ -41,7 +45,7 @@ fn say_motors(motors: Motors) {
         say_signed(motors.second);
     }
     let duties = motors.duties;
-    say(b", duties ");
+    say(b", duties of drivers 0 1 2: ");
     say_bytes(&duties);
 }
 
@@ -67,6 +71,80 @@ fn say_partial(count: usize, remaining: usize) {
         say_number(remaining);
         say(b" to come");
     }
+    say(b"\n");
+}
+
+fn say_none(some: bool) {
+    if !some {
+        say(b" none");
+    }
+}
+
+// The numbers of the songs that are set.
+fn say_set_songs(table: [Song; 16]) {
+    say(b", songs set:");
+    let mut some = false;
+    let mut i = 0;
+    while i < 16 {
+        if table[i].len > 0 {
+            say(b" ");
+            say_number(i);
+            some = true;
+        }
+        i += 1;
+    }
+    say_none(some);
+}
+
+// The first of some places, which are in use, after their name.
+fn say_used(name: &[u8], places: &[u8], count: usize) {
+    say(name);
+    let n = within(count, places);
+    say_none(n > 0);
+    if n > 0 {
+        say(b" ");
+    }
+    say_bytes(&places[0..n]);
+}
+
+fn say_kept(kept: Kept) {
+    let leds = kept.leds;
+    say(b"    baud code ");
+    say_number(wide(kept.baud));
+    say_used(b", LEDs", &leds, 3);
+    say(b", outputs ");
+    say_number(wide(kept.outputs));
+    say(b", IR byte ");
+    say_number(wide(kept.ir));
+}
+
+fn say_songs(songs: Songs) {
+    let table = songs.table;
+    say_set_songs(table);
+    say(b", selected ");
+    say_number(wide(songs.selected));
+}
+
+fn say_list(stream: Stream) {
+    let ids = stream.ids;
+    say_used(b", stream list:", &ids, wide(stream.count));
+}
+
+fn say_held(partial: Partial) {
+    let bytes = partial.bytes;
+    say_used(b", held:", &bytes, partial.count);
+}
+
+// What else is in the record, for a person who asks for it.
+pub fn say_rest(state: State) {
+    let kept = state.kept;
+    let songs = state.songs;
+    let stream = state.stream;
+    let partial = state.partial;
+    say_kept(kept);
+    say_songs(songs);
+    say_list(stream);
+    say_held(partial);
     say(b"\n");
 }
 

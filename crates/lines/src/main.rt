@@ -2,8 +2,11 @@
 // and words that it finds, with their places counted from 1.
 ghost use Prim.Native.Nat.{_≤_, _<_};
 ghost use lib.ListN.{length};
-use libc::STDOUT_FILENO;
 use line::Number;
+use terminal::say;
+use terminal::say_number;
+use terminal::say_shown;
+use terminal::within;
 
 // The most bytes of a line that are kept here.
 const ROOM: usize = 24;
@@ -16,52 +19,31 @@ struct Held {
     cut: bool,
 }
 
-fn say(text: &[u8]) {
-    io::write_all(STDOUT_FILENO, text);
-}
-
-fn say_size(n: usize) {
-    io::print_decimal(STDOUT_FILENO, n as u64);
-}
-
 fn say_value(word: &[u8]) {
     let value = line::signed(word);
     match value {
         Number::Plain(n) => {
             say(b"number ");
-            say_size(n);
+            say_number(n);
         }
         Number::Minus(n) => {
             say(b"number -");
-            say_size(n);
+            say_number(n);
         }
-        Number::TooLarge => say(b"a number too large"),
-        Number::NotANumber => say(b"no number"),
-    }
-}
-
-// A byte that a terminal would not show is written as a dot.
-fn say_byte(b: u8) {
-    if b > 32 && b < 127 {
-        say(&[b]);
-    } else {
-        say(b".");
-    }
-}
-
-fn say_bytes(text: &[u8]) {
-    let mut i = 0;
-    while i < text.len() {
-        say_byte(text[i]);
-        i += 1;
+        Number::TooLarge => {
+            say(b"a number too large");
+        }
+        Number::NotANumber => {
+            say(b"no number");
+        }
     }
 }
 
 fn say_word(word: &[u8], place: usize) {
     say(b"    place ");
-    say_size(place);
+    say_number(place);
     say(b": ");
-    say_bytes(word);
+    say_shown(word);
     say(b", ");
     say_value(word);
     say(b"\n");
@@ -84,16 +66,10 @@ fn say_words(text: &[u8]) {
     }
 }
 
-fn within(size: usize, text: &[u8]) -> usize
-    ensures { λ r. ⌜ r ≤ length (now (text .entry)) ⌝ }
-{
-    if size <= text.len() { size } else { text.len() }
-}
-
 fn say_line(line: &[u8], held: Held) {
     let size = within(held.size, line);
     say(b"  a line of ");
-    say_size(size);
+    say_number(size);
     say(b" bytes");
     if held.cut {
         say(b", the rest did not fit");
@@ -157,7 +133,7 @@ fn read_text(text: &[u8]) {
 fn show(name: &[u8], text: &[u8]) {
     say(name);
     say(b", ");
-    say_size(text.len());
+    say_number(text.len());
     say(b" bytes\n");
     read_text(text);
 }

@@ -73,6 +73,35 @@ fn counted(input: Input, from: usize) -> Input {
     next
 }
 
+// A line, of which these bytes are there; the next one begins at a place of the block.
+fn line_to(input: Input, from: usize, size: usize, cut: bool) -> Line
+    ensures { λ r. ⌜ r .size ≡ size ⌝ }
+{
+    let input = counted(input, from);
+    Line {
+        input,
+        size,
+        cut,
+        came: LINE,
+    }
+}
+
+// What is left at the end: a last line that lacks its newline, or nothing.
+fn last_line(input: Input, size: usize, cut: bool) -> Line
+    ensures { λ r. ⌜ r .size ≡ size ⌝ }
+{
+    if size > 0 || cut {
+        return line_to(input, input.from, size, cut);
+    }
+    let came = input.over;
+    Line {
+        input,
+        size,
+        cut,
+        came,
+    }
+}
+
 // The next line, without its newline; the last one may lack it. A proved loop has to end, and nothing says that a line does: the turns count down from a
 // number that no run uses up.
 pub fn next_line(input: Input, line: &mut [u8]) -> Line
@@ -93,31 +122,10 @@ pub fn next_line(input: Input, line: &mut [u8]) -> Line
         size = got.size;
         cut = cut || got.cut;
         if got.ended {
-            let input = counted(now, got.next);
-            return Line {
-                input,
-                size,
-                cut,
-                came: LINE,
-            };
+            return line_to(now, got.next, size, cut);
         }
         now.from = got.next;
         turns -= 1;
     }
-    if size > 0 || cut {
-        let input = counted(now, now.from);
-        return Line {
-            input,
-            size,
-            cut,
-            came: LINE,
-        };
-    }
-    let came = now.over;
-    Line {
-        input: now,
-        size,
-        cut,
-        came,
-    }
+    last_line(now, size, cut)
 }

@@ -99,6 +99,14 @@ fn plain(op: u8, wanted: usize, text: &[u8], from: usize, number: usize) -> Fram
     Framed { bytes, ok: read.ok }
 }
 
+// A command without data: nothing stands after its name.
+fn bare(op: u8, text: &[u8], from: usize, number: usize) -> Framed {
+    let mut bytes = [0u8; 35];
+    bytes[0] = op;
+    let ok = ends(text, from, number);
+    Framed { bytes, ok }
+}
+
 fn clipped(n: usize) -> u8 {
     if n <= 255 { n as u8 } else { 255 }
 }
@@ -138,10 +146,15 @@ fn frame_from(op: u8, text: &[u8], from: usize, number: usize) -> Framed {
     }
     let length = frame::data_length(op);
     match length {
-        Length::Fixed(n) => plain(op, n, text, from, number),
+        Length::Fixed(n) => {
+            if n == 0 {
+                return bare(op, text, from, number);
+            }
+            plain(op, n, text, from, number)
+        }
         Length::Song => song(op, text, from, number),
         Length::Counted => counted(op, text, from, number),
-        Length::Unknown => plain(op, 0, text, from, number),
+        Length::Unknown => bare(op, text, from, number),
     }
 }
 

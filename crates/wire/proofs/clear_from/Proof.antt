@@ -9,8 +9,6 @@ use Rattle.wire.specs.Lists.{isZero, allZero}
 use Rattle.wire.proofs.ListsLaws.{all-next}
 use Rattle.wire.proofs.clear_from.Statement.{statement}
 use Rattle.wire.proofs.clear_from.Tie as tie
-use Rattle.wire.proofs.clear_from.Reads as reads
-use Rattle.wire.proofs.clear_from.Lts as lts
 
 abbrev Inv-loop : tie.InvT-loop
 Inv-loop bytes from clear₀ i₀ clear i = allZero (drop from bytes) ≡ (clear && allZero (drop i bytes))

@@ -40,10 +40,17 @@ module _ (c : tie.After-gather Inv-loop μ-loop) where
       (omega (arith, e, f), e ∙ at-loop .loop .inv .1)
 
 returns : tie.Need-returns Inv-loop μ-loop
-returns c = gathered (c .before .before .before .before .before)
+returns c =
+    let g = gathered (c .before .before .before .before .before) in
+    (rw (c .line-to .ensures) (g .0), g .1)
 
 loop-again : tie.Need-loop-again Inv-loop μ-loop
 loop-again c = gathered (c .before .before .before .before)
+
+returns-2 : tie.Need-returns-2 Inv-loop μ-loop
+returns-2 c =
+    let inv = c .before .before .loop .inv in
+    (rw (c .last-line .ensures) (inv .0), inv .1)
 
 pub next-line-spec : {M : Type 1} → statement M
 next-line-spec =
@@ -66,7 +73,5 @@ next-line-spec =
     (λ c. search needs)
     loop-again
     (λ c κs. search needs)
-    (λ c. c .before .before .before .loop .inv .1)
-    (λ c. c .before .before .before .loop .inv)
-    (λ c. c .before .before .before .loop .inv .1)
-    (λ c. c .before .before .before .loop .inv))
+    (λ c. c .before .before .loop .inv .1)
+    returns-2)
