@@ -184,11 +184,15 @@ fn kept_ok(kept: Kept) -> bool
     is_legal(Command::Outputs(kept.outputs)) && is_legal(Command::Baud(kept.baud))
 }
 
+// Of a song that is not set all places are looked at, as many as the type says, which the compiler does at once.
 fn song_ok(song: Song) -> bool
     ensures { λ r. ⌜ r ≡ songOk song ⌝ }
 {
     let len = song.len;
     let notes = song.notes;
+    if len == 0 {
+        return wire::clear_from(&notes, 0);
+    }
     len <= frame::LEGAL_COUNT && wire::clear_from(&notes, 2 * (len as usize))
 }
 

@@ -8,6 +8,7 @@ use board::Ran;
 use command::Command;
 use command::Message;
 use state::State;
+use terminal::within;
 
 const IMAGE: u8 = 5;
 
@@ -19,14 +20,7 @@ pub fn is_setting(kind: u8) -> bool {
     kind == IMAGE || (kind == ROOM || kind == STATE)
 }
 
-// The settings: each is changed by its own kind alone.
-
-pub fn set_state(state: State, kind: u8, body: &[u8]) -> State {
-    if kind == STATE {
-        return state_of(body);
-    }
-    state
-}
+// What a setting sets; another kind leaves it as it is.
 
 pub fn set_image(image: [u8; 40], kind: u8, body: &[u8]) -> [u8; 40] {
     if kind != IMAGE {
@@ -39,6 +33,13 @@ pub fn set_image(image: [u8; 40], kind: u8, body: &[u8]) -> [u8; 40] {
 
 pub fn set_room(room: usize, kind: u8, body: &[u8]) -> usize {
     if kind == ROOM { word_at(body, 0) } else { room }
+}
+
+pub fn set_state(state: State, kind: u8, body: &[u8]) -> State {
+    if kind == STATE {
+        return state_of(body);
+    }
+    state
 }
 
 // What a call gave, with the bytes that it read.
@@ -56,13 +57,6 @@ fn byte(state: State, b: u8, image: &[u8; 40], buffer: &mut [u8]) -> Ran {
     let answer = board::byte(state, b, image, buffer);
     let read = if answer.number == 8 { 0 } else { 1 };
     having_read(answer, read)
-}
-
-fn run(state: State, body: &[u8], image: &[u8; 40], buffer: &mut [u8]) -> Ran {
-    if body.len() < 2 {
-        return board::run(state, b"", image, buffer);
-    }
-    board::run(state, &body[2..], image, buffer)
 }
 
 fn report(state: State, flags: u8) -> Ran {
@@ -130,14 +124,27 @@ fn write(state: State, body: &[u8], buffer: &mut [u8]) -> Ran {
     }
 }
 
-pub fn perform(state: State, kind: u8, body: &[u8], image: &[u8; 40], buffer: &mut [u8]) -> Ran {
+// A call; the first bytes of the buffer, as many as the room says, are lent with it.
+pub fn perform(
+    state: State,
+    kind: u8,
+    body: &[u8],
+    image: &[u8; 40],
+    room: usize,
+    buffer: &mut [u8],
+) -> Ran {
+    let n = within(room, buffer);
+    let lent = &mut buffer[0..n];
     match kind {
-        1 => byte(state, byte_at(body, 0), image, buffer),
+        1 => byte(state, byte_at(body, 0), image, lent),
         2 => report(state, byte_at(body, 0)),
-        3 => having_read(board::tick(state, image, buffer), 0),
+        3 => having_read(board::tick(state, image, lent), 0),
         4 => having_read(board::song_end(state), 0),
-        129 => run(state, body, image, buffer),
-        _ => write(state, body, buffer),
+        129 => {
+            let from = within(2, body);
+            board::run(state, &body[from..], image, lent)
+        }
+        _ => write(state, body, lent),
     }
 }
 

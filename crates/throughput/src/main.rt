@@ -6,7 +6,6 @@ mod input;
 mod layout;
 mod tally;
 
-use board::Ran;
 use state::State;
 use tally::Tally;
 use terminal::within;
@@ -35,21 +34,35 @@ fn style_asked() -> u8 {
     style_named(&word[..n])
 }
 
-// What a call gave is told or counted, and its answer is cleared for the next one.
-fn told(before: Tally, style: u8, ran: Ran, buffer: &mut [u8]) -> Tally {
-    let n = within(ran.length, buffer);
-    let mut tally = tally::counted(before, ran.number, ran.length);
+// What a call gave is counted and digested, or told; and its answer is cleared for the next one.
+fn told(
+    before: Tally,
+    style: u8,
+    number: u8,
+    length: usize,
+    read: usize,
+    buffer: &mut [u8],
+) -> Tally {
+    let n = within(length, buffer);
+    let mut tally = tally::counted(before, number, length);
     if style == TRACE {
-        let state = ran.state;
-        tally::say_call(ran.number, ran.read, &buffer[0..n], state);
+        tally::say_call(number, read, &buffer[0..n]);
     } else {
-        tally.digest = tally::of_answer(tally.digest, ran.number, ran.read, &buffer[0..n]);
-    }
-    if style == WHOLE {
-        let state = ran.state;
-        tally.digest = tally::of_record(tally.digest, state);
+        tally.digest = tally::of_answer(tally.digest, number, read, &buffer[0..n]);
     }
     calls::clear(buffer, n);
+    tally
+}
+
+// And the record after it.
+fn with_record(before: Tally, style: u8, state: State) -> Tally {
+    let mut tally = before;
+    if style == TRACE {
+        tally::say_record(state);
+    }
+    if style == WHOLE {
+        tally.digest = tally::of_record(tally.digest, state);
+    }
     tally
 }
 
@@ -60,13 +73,14 @@ fn finish(tally: Tally, style: u8, offset: usize, fault: u8) {
     input::say_fault(offset, fault);
 }
 
-// The whole file. A proved loop has to end, and nothing says that the input does: the turns count down from a number that no run uses up.
-fn perform(start: State, style: u8) {
+// The whole file. The record stands in an array of two, by turns the one before a call and the one after it, so that the compiler moves it as a whole. A proved
+// loop has to end, and nothing says that the input does: the turns count down from a number that no run uses up.
+fn perform(first: State, style: u8) {
     let mut space = io::large_buffer();
     let block: &mut [u8] = &mut space;
     let mut lent = [0u8; 1024];
     let buffer: &mut [u8] = &mut lent;
-    let mut state = start;
+    let mut states = [first; 2];
     let mut image = [0u8; 40];
     let mut room = 832;
     let mut tally = tally::nothing();
@@ -79,19 +93,22 @@ fn perform(start: State, style: u8) {
             finish(tally, style, window.offset, record.fault);
             return;
         }
-        let kind = record.kind;
         let start = record.start;
         let end = record.end;
         let body = &block[start..end];
-        if calls::is_setting(kind) {
-            state = calls::set_state(state, kind, body);
-            image = calls::set_image(image, kind, body);
-            room = calls::set_room(room, kind, body);
+        let at = (turns % 2) as usize;
+        if calls::is_setting(record.kind) {
+            states[1 - at] = calls::set_state(states[at], record.kind, body);
+            image = calls::set_image(image, record.kind, body);
+            room = calls::set_room(room, record.kind, body);
         } else {
-            let n = within(room, buffer);
-            let ran = calls::perform(state, kind, body, &image, &mut buffer[0..n]);
-            state = ran.state;
-            tally = told(tally, style, ran, buffer);
+            let ran = calls::perform(states[at], record.kind, body, &image, room, buffer);
+            let after = ran.state;
+            states[1 - at] = after;
+            tally = told(tally, style, ran.number, ran.length, ran.read, buffer);
+            if style != BARE {
+                tally = with_record(tally, style, after);
+            }
         }
         window = input::past(window, end);
         turns -= 1;

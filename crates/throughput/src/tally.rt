@@ -93,7 +93,7 @@ fn say_hex(bytes: &[u8]) {
 }
 
 // A line for a call.
-pub fn say_call(number: u8, read: usize, answer: &[u8], state: State) {
+pub fn say_call(number: u8, read: usize, answer: &[u8]) {
     say_number(wide(number));
     say(b" ");
     say_number(answer.len());
@@ -104,9 +104,13 @@ pub fn say_call(number: u8, read: usize, answer: &[u8], state: State) {
         say(b"-");
     }
     say_hex(answer);
+    say(b" ");
+}
+
+// And the record after it.
+pub fn say_record(state: State) {
     let mut bytes = [0u8; 602];
     put_state(&mut bytes, state);
-    say(b" ");
     say_hex(&bytes);
     say(b"\n");
 }
