@@ -1,7 +1,6 @@
 // Feeds the line reader an ordinary text, a long line, noise, a last line without a newline, and nothing, in blocks of eight bytes, and writes the lines
 // and words that it finds, with their places counted from 1.
 ghost use Prim.Native.Nat.{_≤_, _<_};
-ghost use lib.ListN.{length};
 use line::Number;
 use terminal::say;
 use terminal::say_number;
