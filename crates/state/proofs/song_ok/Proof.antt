@@ -1,6 +1,6 @@
 -- `state::song_ok` meets its contract.
 -- Assumes nothing.
-use mathlib.Core.Path.{_≡_, refl, ap, _∙_}
+use mathlib.Core.Path.{_≡_, ap, _∙_}
 use mathlib.Core.Bool.{Bool, true}
 use Prim.Native.Nat.{ℕ, _*_, _<_, _≤_}
 use native.Mathlib.Omega.{arith}
@@ -25,10 +25,16 @@ typed c =
     let each : (i : ℕ) → getD l i 0 < 256 = λ i. (let h : Fits w8 (getD l i 0) = search needs in omega arith) in
     array-true 32 l len each
 
--- the places after the notes of a song of this length
-unused : (song : Song) (n : ℕ) → n ≡ 2 * song .len → allZero (drop n (song .notes)) ≡ notesZero song
+-- the places after the notes: all of them where the song is not set, and those from 2 L on
+unset : (song : Song) → song .len ≡ 0 → allZero (drop 0 (song .notes)) ≡ notesZero song
 unfolding notesZero
-unused song n e = ap (λ (k : ℕ). allZero (drop k (song .notes))) e
+unset song e =
+    let none : 0 ≡ 2 * song .len = omega (arith, e) in
+    ap (λ (n : ℕ). allZero (drop n (song .notes))) none
+
+unused : (c : tie.After-clear-from2) → c .clear-from2 .result ≡ notesZero (c .before .before .before .before .before .args .song)
+unfolding notesZero
+unused c = c .clear-from2 .ensures
 
 -- of a song whose length is legal they decide
 decides : (c : tie.Start) (b : Bool) → c .args .song .len ≤ 16 → b ≡ notesZero (c .args .song) → b ≡ songOk (c .args .song)
@@ -38,14 +44,11 @@ decides c b h e = e ∙ simp (typed c, length-legal (c .args .song), le-leb _ _ 
 returns : tie.Need-returns
 returns c =
     let start = c .before .before .before .before in
-    let s = start .args .song in
-    let zero : s .len ≡ 0 = c .before .before .if1 .taken in
-    decides start (c .clear-from .result) (omega (arith, zero)) (c .clear-from .ensures ∙ unused s 0 (omega (arith, zero)))
+    let zero = c .before .before .if1 .taken in
+    decides start (c .clear-from .result) (omega (arith, zero)) (c .clear-from .ensures ∙ unset (start .args .song) zero)
 
 returns-2 : tie.Need-returns-2
-returns-2 c =
-    let start = c .before .before .before .before .before in
-    decides start (c .clear-from2 .result) (c .before .before .if2 .taken) (c .clear-from2 .ensures ∙ unused (start .args .song) (2 * start .args .song .len) refl)
+returns-2 c = decides (c .before .before .before .before .before) (c .clear-from2 .result) (c .before .before .if2 .taken) (unused c)
 
 returns-3 : tie.Need-returns-3
 unfolding songOk
