@@ -8,10 +8,11 @@ use native.Mathlib.Omega.{arith}
 use lib.Dec.{T, leb, ltb, eqb, leb→le, ltb→lt, leb·zero}
 use lib.ListN.{length, getD, take, drop}
 use mir.Facts.{and-yes, yes-and, T-not-not}
-use borrow.Author.Tests.{le-leb, not-true, not-false}
+use borrow.Author.Tests.{le-leb, eq-eqb, ne-eqb, not-true, not-false}
 use Rattle.wire.specs.Lists.{all, within, byteArray}
-use Rattle.wire.proofs.BoolLaws.{is-true, to-T, cond-not}
+use Rattle.wire.proofs.BoolLaws.{is-true, to-T, cond-not, cond-true, cond-false}
 use Rattle.wire.proofs.ListsLaws.{among-all, all-at}
+use Rattle.frame.specs.declared.Partial.{Partial}
 use Rattle.packet.specs.Packets.{answerBytes}
 use Rattle.command.specs.Layout.{refusalOf}
 use Rattle.command.specs.CommandTable.{rowOf, allowedOf, legalOf}
@@ -22,13 +23,13 @@ use Rattle.command.specs.declared.Message.{Message}
 use Rattle.command.proofs.VariantLaws.{every}
 use Rattle.command.proofs.CommandTableLaws.{from-off}
 use Rattle.command.proofs.CommandsProved.{data-column}
-use Rattle.state.specs.State.{songAt, toPassive, withBaud, withList}
+use Rattle.state.specs.State.{songAt, toPassive, withBaud, withList, withPartial}
 use Rattle.state.specs.Accepted.{isSet, acceptedOf}
 use Rattle.state.specs.Record.{StaysAccepted}
 use Rattle.state.specs.declared.State.{State}
 use Rattle.state.proofs.RecordProved.{accepted-stays}
 use Rattle.board.specs.Outcome.{Outcome, gives, answers, fitted}
-use Rattle.board.specs.Judge.{statusOf, dutyOf, nothing, effectOf, effectIn, answerOf, noSong, Rule, _if_, rules, first, judgedBy, judgeOf}
+use Rattle.board.specs.Judge.{statusOf, dutyOf, Needs, nothing, aSong, packets, busy, effectOf, effectIn, answerOf, noSong, Rule, _if_, rules, first, judgedBy, judgeOf}
 
 -- ---- effectOf
 
@@ -131,6 +132,42 @@ module _ (P : Outcome → Type 0) (s : State) (refused : (n : ℕ) → 1 ≤ n �
       let a = and-yes (numbered r) (all numbered rs) t in
       one-rule (r .number) (r .when) (first rs s o) (a .0) (λ u. first-is rs o (a .1) (λ v. f (yes-and (passed r) (all passed rs) u v)))
 
+-- the outcome o, with another record: s where it is a refusal, u where it is done
+abbrev leaving : Outcome → State → State → Outcome
+leaving o s u = cond (eqb (o .number) 0) (answers (o .answer) u) (gives (o .number) s)
+
+one-leaving : (n : ℕ) (b : Bool) (x y : Outcome) (s t u : State) → T (within 1 7 n) → y ≡ leaving x t u → cond b (gives n t) y ≡ leaving (cond b (gives n s) x) t u
+one-leaving n true x y s t u w e =
+    let h = leb→le 1 n (and-yes (leb 1 n) (leb n 7) w .0) in
+    sym (cond-false (eqb n 0) _ _ (ne-eqb n 0 (λ (z : n ≡ 0). omega arith)))
+one-leaving n false x y s t u w e = e
+
+-- number and answer do not depend on the records
+first-leaving : (s t u v : State) (bytes : List ℕ) (rs : List Rule) → T (all numbered rs)
+    → first rs t (answers bytes v) ≡ leaving (first rs s (answers bytes u)) t v
+first-leaving s t u v bytes [] w = refl
+first-leaving s t u v bytes (r ∷ rs) w =
+    let a = and-yes (numbered r) (all numbered rs) w in
+    one-leaving (r .number) (r .when) (first rs s (answers bytes u)) (first rs t (answers bytes v)) s t v (a .0) (first-leaving s t u v bytes rs (a .1))
+
+-- what a command needs does not depend on what is held
+
+song-held : (s : State) (p : Partial) (n : Needs) → noSong (withPartial p s) n ≡ noSong s n
+song-held s p nothing = refl
+song-held s p (aSong k) = refl
+song-held s p (packets ids) = refl
+
+busy-held : (s : State) (p : Partial) (n : Needs) → busy (withPartial p s) n ≡ busy s n
+busy-held s p nothing = refl
+busy-held s p (aSong k) = refl
+busy-held s p (packets ids) = refl
+
+answer-held : (s : State) (p : Partial) (n : Needs) (image : List ℕ) → answerOf (withPartial p s) n image ≡ answerOf s n image
+unfolding statusOf
+answer-held s p nothing image = refl
+answer-held s p (aSong k) image = refl
+answer-held s p (packets ids) image = refl
+
 -- ---- judgeOf
 
 module _ (s : State) (m : Message) (image : List ℕ) (room : ℕ) where
@@ -167,6 +204,27 @@ module _ (s : State) (m : Message) (image : List ℕ) (room : ℕ) where
   -- another number than 0 leaves the record as it is, and has no answer
   pub judge-refused : (judgeOf s m image room .number ≡ 0 → ⊥) → judgeOf s m image room ≡ gives (judgeOf s m image room .number) s
   judge-refused = judge-is (λ (o : Outcome). (o .number ≡ 0 → ⊥) → o ≡ gives (o .number) s) (λ n a b h. refl) (λ d h. absurd (h refl))
+
+  -- 0 is given to legal data alone
+  pub judge-legal : judgeOf s m image room .number ≡ 0 → legalOf m ≡ true
+  judge-legal = judge-is (λ (o : Outcome). o .number ≡ 0 → legalOf m ≡ true) (λ n a b (e : n ≡ 0). absurd (omega arith)) (λ d e. d .legal)
+
+  -- number and answer are the same whatever is held
+  module _ (p : Partial) where
+    judge-held : judgeOf (withPartial p s) m image room ≡ leaving (judgeOf s m image room) (withPartial p s) (effectIn m .sets (withPartial p s))
+    unfolding judgeOf
+    judge-held =
+        let n = effectIn m .needs in
+        rw (song-held s p n, busy-held s p n, answer-held s p n image)
+        (first-leaving s (withPartial p s) (effectIn m .sets s) (effectIn m .sets (withPartial p s)) answer (rules s m image room) tt)
+
+    pub held-refused : (judgeOf s m image room .number ≡ 0 → ⊥)
+        → judgeOf (withPartial p s) m image room ≡ gives (judgeOf s m image room .number) (withPartial p s)
+    held-refused h = judge-held ∙ cond-false (eqb (judgeOf s m image room .number) 0) _ _ (ne-eqb (judgeOf s m image room .number) 0 h)
+
+    pub held-done : judgeOf s m image room .number ≡ 0
+        → judgeOf (withPartial p s) m image room ≡ answers (judgeOf s m image room .answer) (effectIn m .sets (withPartial p s))
+    held-done e = judge-held ∙ cond-true (eqb (judgeOf s m image room .number) 0) _ _ (eq-eqb (judgeOf s m image room .number) 0 e)
 
   -- data not legal: no effect
   pub judge-illegal : legalOf m ≡ false → judgeOf s m image room .state ≡ s

@@ -1,28 +1,32 @@
 -- Laws of a run that carries the partial frame alone: what is left of the slice decides.
 -- Assumes nothing.
-use mathlib.Core.Path.{_≡_, refl, sym, ap, subst, _∙_}
-use mathlib.Core.Bool.{true, false}
-use mathlib.Core.List.{List, _∷_}
+use mathlib.Core.Path.{_≡_, refl, sym, ap, ap₂, subst, _∙_}
+use mathlib.Core.Bool.{Bool, true, false, cond}
+use mathlib.Core.List.{List, [], _∷_}
 use Prim.Native.Nat.{ℕ, _+_, _≤_, _<_}
 use native.Mathlib.Nat.{zero-add, add-zero}
 use native.Mathlib.Omega.{arith}
 use lib.Dec.{T, eqb}
 use lib.ListN.{length, getD, drop, drop-of-length-le}
-use borrow.Author.Tests.{ne-eqb}
+use borrow.Author.Tests.{ne-eqb, eqb-true}
 use Rattle.wire.proofs.BoolLaws.{is-true, cond-true, cond-false}
 use Rattle.wire.proofs.ListsLaws.{drop-next}
+use Rattle.wire.specs.declared.Sent.{Sent}
 use Rattle.frame.specs.Push.{pushOf, emptyPartial, nextOf}
 use Rattle.frame.specs.declared.Partial.{Partial}
 use Rattle.frame.proofs.PushLaws.{next-more}
+use Rattle.command.specs.Layout.{decodeOf}
+use Rattle.command.specs.declared.Message.{Message}
 use Rattle.state.specs.State.{withPartial}
 use Rattle.state.specs.Accepted.{acceptedOf}
 use Rattle.state.specs.declared.State.{State}
-use Rattle.board.specs.Outcome.{Outcome, gives, answered, written}
-use Rattle.board.specs.Calls.{fedOf, byteOf, Performed, performed, readBy, later, feed, runOf, ranAs}
-use Rattle.board.specs.declared.Answer.{Answer}
+use Rattle.board.specs.Outcome.{Outcome, gives, sentAs, written}
+use Rattle.board.specs.Judge.{effectIn, judgeOf}
+use Rattle.board.specs.Calls.{byteOf, Performed, performed, readBy, later, feed, runOf, ranAs}
 use Rattle.board.specs.declared.Ran.{Ran}
-use Rattle.board.proofs.JudgeLaws.{judge-small}
-use Rattle.board.proofs.CallsLaws.{checked-good, takes-accepted, messageOf, byte-waits, byte-judged}
+use Rattle.board.proofs.JudgeLaws.{judge-small, judge-refused, held-refused, held-done}
+use Rattle.board.proofs.OutcomeLaws.{nothing-written, MetSent, sent-number}
+use Rattle.board.proofs.CallsLaws.{takes-accepted, messageOf, judgedAt, byte-bad, byte-waits, byte-judged, byte-nine}
 
 -- ---- what comes back
 
@@ -33,12 +37,43 @@ RanMet x r d d′ = (r ≡ ranAs x) × (d′ ≡ written (x .outcome) d)
 pub ran-met : {x y : Performed} {r : Ran} (d : List ℕ) {d′ : List ℕ} → x ≡ y → RanMet y r d d′ → RanMet x r d d′
 ran-met d e m = (m .0 ∙ ap ranAs (sym e), m .1 ∙ ap (λ (x : Performed). written (x .outcome) d) (sym e))
 
-abbrev pub ran : Answer → ℕ → Ran
-ran a n = record { number = a .number; length = a .length; state = a .state; read = n }
+-- a run that ends with nothing written
+pub ran-gives : {x : Performed} {r : Ran} {n : ℕ} {s : State} {k : ℕ} (d : List ℕ) → x ≡ performed (gives n s) k → r ≡ ranAs (performed (gives n s) k) → RanMet x r d d
+ran-gives {n = n} {s = s} d e g = ran-met d e (g, nothing-written n s d)
 
-pub ran-beside : (o : Outcome) (n : ℕ) → ran (answered o) n ≡ ranAs (performed o n)
-unfolding answered ranAs
-ran-beside o n = refl
+-- ---- a whole frame: its command is judged at the record with the frame still held, and what it leaves has nothing held
+
+-- of a message and a buffer that are others
+pub sent-of : (s : State) (image : List ℕ) {m m′ : Message} {d d₀ d′ : List ℕ} {sent : Sent} → m ≡ m′ → d ≡ d₀
+    → MetSent (judgeOf s m image (length d)) sent d d′ → MetSent (judgeOf s m′ image (length d₀)) sent d₀ d′
+sent-of s image {m′ = m′} {d = d} {d′ = d′} {sent = sent} e f x =
+    subst (λ (l : List ℕ). MetSent (judgeOf s m′ image (length l)) sent l d′) f
+    (subst (λ (y : Message). MetSent (judgeOf s y image (length d)) sent d d′) e x)
+
+module _ (s : State) (m : Message) (image d : List ℕ) {d′ : List ℕ} {sent : Sent} (k : ℕ) (e : MetSent (judgeOf s m image (length d)) sent d d′) where
+  abbrev given : Outcome
+  given = judgeOf s m image (length d)
+
+  abbrev past : State
+  past = withPartial emptyPartial s
+
+  abbrev judged : Performed
+  judged = performed (judgeOf past m image (length d)) k
+
+  pub ran-refused : {r : Ran} → (sent .number ≡ 0 → ⊥) → r ≡ ranAs (performed (gives (sent .number) past) k) → RanMet judged r d d′
+  ran-refused h f =
+      let n = given .number in
+      let some : n ≡ 0 → ⊥ = λ x. h (sent-number given (e .0) ∙ x) in
+      let none : d′ ≡ d = e .1 ∙ ap (λ (x : Outcome). written x d) (judge-refused s m image (length d) some) ∙ sym (nothing-written n s d) in
+      ran-met d (ap (λ (x : Outcome). performed x k) (held-refused s m image (length d) emptyPartial some))
+      (f ∙ ap (λ (x : ℕ). ranAs (performed (gives x past) k)) (sent-number given (e .0)), none ∙ nothing-written n past d)
+
+  pub ran-done : {t : State} → sent .number ≡ 0 → t ≡ effectIn m .sets past
+      → RanMet judged (record { number = 0; length = sent .length; state = t; read = k }) d d′
+  unfolding ranAs sentAs written
+  ran-done z f =
+      ran-met d (ap (λ (x : Outcome). performed x k) (held-done s m image (length d) emptyPartial (sym (sent-number given (e .0)) ∙ z)))
+      (ap₂ (λ (x : ℕ) (u : State). record { number = 0; length = x; state = u; read = k }) (ap (λ (x : Sent). x .length) (e .0)) f, e .1)
 
 -- ---- the loop
 
@@ -95,14 +130,33 @@ module _ (s : State) (bytes image : List ℕ) (room : ℕ) where
         }
 
     -- or its command is judged
-    pub going-done : pushOf p b .complete ≡ true → runOf s bytes image room ≡ performed (fedOf s (pushOf p b) image room) (n + 1)
-    unfolding byteOf fedOf
+    pub going-done : pushOf p b .complete ≡ true
+        → runOf s bytes image room ≡ performed (judgeOf (withPartial emptyPartial s) (decodeOf (pushOf p b .partial .bytes)) image room) (n + 1)
     going-done e =
+        let judged : o ≡ judgedAt held b image room = byte-judged held b image room (g .accepted) e in
         let small : o .number ≤ 7 =
-        subst (λ (x : Outcome). x .number ≤ 7) (sym (byte-judged held b image room (g .accepted) e))
-        (judge-small (withPartial emptyPartial s) (messageOf held b) image room) in
-        let judged : o ≡ fedOf s (pushOf p b) image room = checked-good held (fedOf held (pushOf p b) image room) (g .accepted) in
+        subst (λ (x : Outcome). x .number ≤ 7) (sym judged) (judge-small (withPartial emptyPartial s) (messageOf held b) image room) in
         let stops : feed held (b ∷ drop (n + 1) bytes) image room ≡ performed o 1 =
         cond-false (eqb (o .number) 9) _ (performed o (readBy o)) (ne-eqb (o .number) 9 (λ (x : o .number ≡ 9). omega arith))
         ∙ ap (performed o) (cond-false (eqb (o .number) 8) 0 1 (ne-eqb (o .number) 8 (λ (x : o .number ≡ 8). omega arith))) in
         next ∙ ap (later n) stops ∙ ap (λ (x : Outcome). performed x (n + 1)) judged
+
+-- ---- a run over one byte is that byte
+
+module _ (s : State) (b : ℕ) (image : List ℕ) (room : ℕ) where
+  abbrev one : Outcome
+  one = byteOf s b image room
+
+  turned : (e : Bool) → eqb (one .number) 9 ≡ e → cond e (later 1 (performed (gives 9 (one .state)) 0)) (performed one (readBy one)) .outcome ≡ one
+  turned true e =
+      let nine = byte-nine s b image room (eqb-true (one .number) 9 e) in
+      ap (λ (o : Outcome). gives 9 (o .state)) nine ∙ sym nine
+  turned false e = refl
+
+  pub run-over-one : runOf s (b ∷ []) image room .outcome ≡ one
+  unfolding runOf
+  run-over-one = go (acceptedOf s) refl
+    where
+      go : (a : Bool) → acceptedOf s ≡ a → cond a (feed s (b ∷ []) image room) (performed (gives 8 s) 0) .outcome ≡ one
+      go true e = turned (eqb (one .number) 9) refl
+      go false e = sym (byte-bad s b image room e)

@@ -7,6 +7,7 @@ use lib.Dec.{leb, eqb}
 use lib.ListN.{length}
 use Rattle.wire.specs.Lists.{sameList}
 use Rattle.wire.specs.Buffer.{overwrite}
+use Rattle.wire.specs.declared.Sent.{Sent}
 use Rattle.state.specs.Same.{sameState}
 use Rattle.state.specs.declared.State.{State}
 use Rattle.board.specs.declared.Answer.{Answer}
@@ -36,6 +37,10 @@ fitted bytes room s = cond (leb (length bytes) room) (answers bytes s) (gives 7 
 -- what comes back
 unfoldable pub answered : Outcome → Answer
 answered o = record { number = o .number; length = length (o .answer); state = o .state }
+
+-- and of a part of a call that leaves the record to the rest of it
+unfoldable pub sentAs : Outcome → Sent
+sentAs o = record { number = o .number; length = length (o .answer) }
 
 -- the lent buffer at exit: an answer writes only its own length from the buffer's start
 unfoldable pub written : Outcome → List ℕ → List ℕ

@@ -21,26 +21,25 @@ ghost use lib.IntN.{pos};
 ghost use lib.Signed.{ltZ};
 ghost use lib.ListN.{length, drop};
 ghost use Rattle.wire.specs.Sixteen.{minus};
-ghost use Rattle.packet.specs.Packets.{answerBytes};
-ghost use Rattle.packet.specs.Answers.{listableOf};
+ghost use Rattle.wire.specs.Replies.{wrote, sentOf};
 ghost use Rattle.command.specs.Layout.{refusalOf};
 ghost use Rattle.command.specs.CommandTable.{legalOf};
 ghost use Rattle.state.specs.State.{songAt};
 ghost use Rattle.state.specs.Accepted.{isSet};
-ghost use Rattle.board.specs.Outcome.{gives, fitted, answered, written};
+ghost use Rattle.board.specs.Outcome.{gives, answered, sentAs, written};
 ghost use Rattle.board.specs.Judge.{statusOf, rules, judgedBy, judgeOf};
-ghost use Rattle.board.specs.Calls.{fedOf, byteOf, intoCliff, stopsFor, reportOf, tickOf, songEndOf, runOf, ranAs};
+ghost use Rattle.board.specs.Calls.{byteOf, intoCliff, stopsFor, reportOf, tickOf, songEndOf, performed, runOf, ranAs};
 use command::Command;
 use command::Message;
 use effect::effect;
 use effect::to_passive;
 use effect::with_partial;
 use effect::with_songs;
-use frame::Pushed;
 use packet::Status;
 use state::Motors;
 use state::Songs;
 use state::State;
+use wire::Sent;
 
 // Document 01's numbers given back; 4 and 7 are wire's.
 const DONE: u8 = 0;
@@ -135,24 +134,20 @@ fn is_set(songs: Songs, number: u8) -> bool
     table[number as usize].len != 0
 }
 
-// 142 and 149: the packets, or 7.
-fn reply(state: State, ids: &[u8], image: &[u8; 40], buffer: &mut [u8]) -> Answer
-    requires { ⌜ listableOf (now ids) ≡ true ⌝ }
-    ensures { λ r. ⌜ (r ≡ answered (fitted (answerBytes (statusOf state) (now (image .entry)) (now (ids .entry))) (length (now (buffer .entry))) state))
-        × (now (buffer .exit) ≡ written (fitted (answerBytes (statusOf state) (now (image .entry)) (now (ids .entry))) (length (now (buffer .entry))) state) (now (buffer .entry))) ⌝ }
+// Done, and nothing is written.
+fn done() -> Sent
+    ensures { λ r. ⌜ r ≡ sentOf (wrote []) ⌝ }
 {
-    let sent = packet::answer(ids, status_of(state), image, buffer);
-    Answer {
-        number: sent.number,
-        length: sent.length,
-        state,
+    Sent {
+        number: DONE,
+        length: 0,
     }
 }
 
-// An offered command in one of its modes, with legal data: numbers 5 to 7 in their order, and else its effect.
-fn carry_out(state: State, message: Message, image: &[u8; 40], buffer: &mut [u8]) -> Answer
+// An offered command in one of its modes, with legal data: numbers 5 to 7 in their order, and else its answer. What it does to the record is effect's.
+fn carry_out(state: State, message: Message, image: &[u8; 40], buffer: &mut [u8]) -> Sent
     requires { ⌜ legalOf message ≡ true ⌝ }
-    ensures { λ r. ⌜ (r ≡ answered (judgedBy (drop 4 (rules state message (now (image .entry)) (length (now (buffer .entry))))) state message (now (image .entry))))
+    ensures { λ r. ⌜ (r ≡ sentAs (judgedBy (drop 4 (rules state message (now (image .entry)) (length (now (buffer .entry))))) state message (now (image .entry))))
         × (now (buffer .exit) ≡ written (judgedBy (drop 4 (rules state message (now (image .entry)) (length (now (buffer .entry))))) state message (now (image .entry))) (now (buffer .entry))) ⌝ }
 {
     let command = message.command;
@@ -161,66 +156,53 @@ fn carry_out(state: State, message: Message, image: &[u8; 40], buffer: &mut [u8]
         Command::Play(number) => {
             let songs = state.songs;
             if !is_set(songs, number) {
-                return give(NO_SONG, state);
+                return wire::refuse(NO_SONG);
             }
             if songs.playing {
-                return give(BUSY, state);
+                return wire::refuse(BUSY);
             }
-            give(DONE, effect(state, message))
+            done()
         }
         Command::Sensors(id) => {
             let one = [id];
-            reply(state, &one, image, buffer)
+            packet::answer(&one, status_of(state), image, buffer)
         }
-        Command::QueryList(ids) => reply(state, &payload[0..ids as usize], image, buffer),
-        _ => give(DONE, effect(state, message)),
+        Command::QueryList(ids) => {
+            packet::answer(&payload[0..ids as usize], status_of(state), image, buffer)
+        }
+        _ => done(),
     }
 }
 
-// What a command does when its last byte comes: the numbers 1 to 7 in their order, and else its effect.
-fn judge(state: State, message: Message, image: &[u8; 40], buffer: &mut [u8]) -> Answer
-    ensures { λ r. ⌜ (r ≡ answered (judgeOf state message (now (image .entry)) (length (now (buffer .entry)))))
+// What a command gets back when its last byte comes: the numbers 1 to 7 in their order, and else its answer.
+fn judge(state: State, message: Message, image: &[u8; 40], buffer: &mut [u8]) -> Sent
+    ensures { λ r. ⌜ (r ≡ sentAs (judgeOf state message (now (image .entry)) (length (now (buffer .entry)))))
         × (now (buffer .exit) ≡ written (judgeOf state message (now (image .entry)) (length (now (buffer .entry)))) (now (buffer .entry))) ⌝ }
 {
     let command = message.command;
     let refused = refusal_of(command);
     if refused != DONE {
-        return give(refused, state);
+        return wire::refuse(refused);
     }
     if !command::allowed(command, state.mode) {
-        return give(WRONG_MODE, state);
+        return wire::refuse(WRONG_MODE);
     }
     if !command::legal(message) {
-        return give(wire::NOT_LEGAL, state);
+        return wire::refuse(wire::NOT_LEGAL);
     }
     carry_out(state, message, image, buffer)
 }
 
-// A pushed byte: the frame waits on, or its command is judged and the frame is read past.
-fn fed(state: State, pushed: Pushed, image: &[u8; 40], buffer: &mut [u8]) -> Answer
-    ensures { λ r. ⌜ (r ≡ answered (fedOf state pushed (now (image .entry)) (length (now (buffer .entry)))))
-        × (now (buffer .exit) ≡ written (fedOf state pushed (now (image .entry)) (length (now (buffer .entry)))) (now (buffer .entry))) ⌝ }
+// A run that ends with nothing written.
+fn stop(number: u8, state: State, read: usize) -> Ran
+    ensures { λ r. ⌜ r ≡ ranAs (performed (gives number state) read) ⌝ }
 {
-    let partial = pushed.partial;
-    if !pushed.complete {
-        return give(WAITING, with_partial(state, partial));
+    Ran {
+        number,
+        length: 0,
+        state,
+        read,
     }
-    let bytes = partial.bytes;
-    let cleared = with_partial(state, frame::empty());
-    judge(cleared, command::decode(bytes), image, buffer)
-}
-
-// One byte.
-pub fn byte(state: State, b: u8, image: &[u8; 40], buffer: &mut [u8]) -> Answer
-    ensures { λ r. ⌜ (r ≡ answered (byteOf state b (now (image .entry)) (length (now (buffer .entry)))))
-        × (now (buffer .exit) ≡ written (byteOf state b (now (image .entry)) (length (now (buffer .entry)))) (now (buffer .entry))) ⌝ }
-{
-    if !state::accepts(state) {
-        return give(BAD_RECORD, state);
-    }
-    let partial = state.partial;
-    let pushed = frame::push(partial, b);
-    fed(state, pushed, image, buffer)
 }
 
 // Bytes of a slice, fed until one gives a number other than 9 or the slice ends. The record is checked once: before the run's end only the partial frame
@@ -230,39 +212,50 @@ pub fn run(state: State, bytes: &[u8], image: &[u8; 40], buffer: &mut [u8]) -> R
         × (now (buffer .exit) ≡ written (runOf state (now (bytes .entry)) (now (image .entry)) (length (now (buffer .entry))) .outcome) (now (buffer .entry))) ⌝ }
 {
     if !state::accepts(state) {
-        return Ran {
-            number: BAD_RECORD,
-            length: 0,
-            state,
-            read: 0,
-        };
+        return stop(BAD_RECORD, state, 0);
     }
     let mut partial = state.partial;
     let mut read = 0;
     let ran = loop {
         if read == bytes.len() {
-            break Ran {
-                number: WAITING,
-                length: 0,
-                state: with_partial(state, partial),
-                read,
-            };
+            break stop(WAITING, with_partial(state, partial), read);
         }
         let pushed = frame::push(partial, bytes[read]);
         read += 1;
         if pushed.complete {
-            let answer = fed(state, pushed, image, buffer);
-            let next = answer.state;
+            let whole = pushed.partial;
+            let held = whole.bytes;
+            let message = command::decode(held);
+            let sent = judge(state, message, image, buffer);
+            let cleared = with_partial(state, frame::empty());
+            if sent.number != DONE {
+                break stop(sent.number, cleared, read);
+            }
             break Ran {
-                number: answer.number,
-                length: answer.length,
-                state: next,
+                number: DONE,
+                length: sent.length,
+                state: effect(cleared, message),
                 read,
             };
         }
         partial = pushed.partial;
     };
     ran
+}
+
+// One byte: a run over it.
+pub fn byte(state: State, b: u8, image: &[u8; 40], buffer: &mut [u8]) -> Answer
+    ensures { λ r. ⌜ (r ≡ answered (byteOf state b (now (image .entry)) (length (now (buffer .entry)))))
+        × (now (buffer .exit) ≡ written (byteOf state b (now (image .entry)) (length (now (buffer .entry)))) (now (buffer .entry))) ⌝ }
+{
+    let one = [b];
+    let ran = run(state, &one, image, buffer);
+    let next = ran.state;
+    Answer {
+        number: ran.number,
+        length: ran.length,
+        state: next,
+    }
 }
 
 // Backwards on a tight curve: a radius strictly between -165 and 165.

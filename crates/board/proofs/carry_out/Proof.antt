@@ -7,20 +7,20 @@ use Prim.Native.Nat.{ℕ, _≤_}
 use native.Mathlib.Nat.{sub-zero}
 use native.Mathlib.Omega.{arith}
 use lib.Dec.{T}
-use lib.ListN.{length}
+use lib.ListN.{length, take}
 use borrow.Author.Needs.{needs}
 use borrow.Author.Tests.{not-true, not-false}
 use Rattle.wire.specs.Lists.{fromTo}
+use Rattle.packet.specs.Packets.{answerBytes}
 use Rattle.command.specs.CommandTable.{legalOf}
 use Rattle.command.specs.Commands.{message}
 use Rattle.command.specs.declared.Command.{Command}
 use Rattle.command.specs.declared.Command.the-variants as cmd
 use Rattle.command.proofs.VariantLaws.{of-tags}
-use Rattle.state.specs.declared.State.{State}
-use Rattle.board.specs.Outcome.{Outcome, gives, answered}
-use Rattle.board.specs.Judge.{Needs, nothing, aSong, packets, effectOf}
+use Rattle.board.specs.Outcome.{Outcome}
+use Rattle.board.specs.Judge.{Needs, nothing, aSong, packets, statusOf, effectOf}
 use Rattle.board.proofs.LegalLaws.{play-number, sensors-listable, query-short, query-listable}
-use Rattle.board.proofs.OutcomeLaws.{met-as, met-gives}
+use Rattle.board.proofs.OutcomeLaws.{sent-as, sent-gives, sent-fitted}
 use Rattle.board.proofs.JudgeLaws.{carried, carried-plain, carried-unset, carried-busy, carried-play, carried-sensors, carried-query}
 use Rattle.board.proofs.carry_out.Statement.{statement}
 use Rattle.board.proofs.carry_out.Tie as tie
@@ -64,58 +64,54 @@ returns : tie.Need-returns
 returns c =
     let set = c .before .before in
     let a = begun set .args in
-    met-gives (a .buffer .now)
+    sent-gives (a .state) (a .buffer .now)
     (left-play set
     (carried-unset (a .state) (a .message .payload) (a .image .now) (length (a .buffer .now)) (number set)
     (sym (set .is-set .ensures) ∙ not-true _ (c .before .if1 .taken))))
-    (c .give .ensures)
+    (c .refuse .ensures)
 
 returns-2 : tie.Need-returns-2
 returns-2 c =
     let test = c .before .before in
     let set = test .before in
     let a = begun set .args in
-    met-gives (a .buffer .now)
+    sent-gives (a .state) (a .buffer .now)
     (left-play set
     (carried-busy (a .state) (a .message .payload) (a .image .now) (length (a .buffer .now)) (number set)
     (sym (set .is-set .ensures) ∙ not-false _ (test .if1 .left)) (c .before .if2 .taken)))
-    (c .give2 .ensures)
+    (c .refuse2 .ensures)
 
 returns-3 : tie.Need-returns-3
 returns-3 c =
-    let busy = c .before .before in
+    let busy = c .before in
     let test = busy .before in
     let set = test .before in
     let a = begun set .args in
-    let p = a .message .payload in
-    met-gives (a .buffer .now)
+    sent-gives _ (a .buffer .now)
     (left-play set
-    (carried-play (a .state) p (a .image .now) (length (a .buffer .now)) (number set) (sym (set .is-set .ensures) ∙ not-false _ (test .if1 .left)) (busy .if2 .left)))
-    (c .give3 .ensures
-    ∙ ap (λ (x : State). answered (gives 0 x)) (c .before .effect .ensures ∙ ap (λ (x : Command). effectOf x p .sets (a .state)) (plays set)))
+    (carried-play (a .state) (a .message .payload) (a .image .now) (length (a .buffer .now)) (number set)
+    (sym (set .is-set .ensures) ∙ not-false _ (test .if1 .left)) (busy .if2 .left)))
+    (c .done .ensures)
 
 -- ---- 142
 
-reply-requires : tie.Need-reply-requires
-reply-requires c κs =
-    let told = c .before .before .before .command2 .given in
-    let begun = c .before .before .before .before .before .before .before in
-    sensors-listable (told .0 .0) (begun .args .message .payload) (legal begun (told .1))
-
 returns-4 : tie.Need-returns-4
 returns-4 c =
-    let known = c .before .before .before .before .before in
+    let answer = c .before .before in
+    let status = answer .before .before in
+    let known = status .before .before in
     let told = known .before .command2 .given in
     let begun = known .before .before .before .before .before in
     let a = begun .args in
-    met-as (a .buffer .now)
-    (left-as begun (told .1) ∙ carried-sensors (a .state) (a .message .payload) (a .image .now) (length (a .buffer .now)) (told .0 .0))
-    (c .before .before .reply .ensures)
+    let id = told .0 .0 in
+    sent-as (a .buffer .now) (left-as begun (told .1) ∙ carried-sensors (a .state) (a .message .payload) (a .image .now) (length (a .buffer .now)) id)
+    (sent-fitted (answerBytes (statusOf (a .state)) (a .image .now) (id ∷ [])) (a .buffer .now) (a .state)
+    (sensors-listable id (a .message .payload) (legal begun (told .1))) (rw (status .status-of .ensures) at (answer .answer .ensures)))
 
 -- ---- 149
 
-part-reply-end : tie.Need-part-reply-end
-part-reply-end c =
+part-answer-end : tie.Need-part-answer-end
+part-answer-end c =
     let told = c .before .before .command3 .given in
     let begun = c .before .before .before .before .before .before in
     let l : length (begun .args .message .payload) ≡ 32 = search needs in
@@ -123,21 +119,19 @@ part-reply-end c =
     let x : told .0 .0 ≤ length (begun .args .message .payload) = omega arith in
     x
 
-reply-requires-2 : tie.Need-reply-requires-2
-reply-requires-2 c κs =
-    let told = c .before .before .before .before .command3 .given in
-    let begun = c .before .before .before .before .before .before .before .before in
-    rw (sub-zero (told .0 .0)) (query-listable (told .0 .0) (begun .args .message .payload) (legal begun (told .1)))
-
 returns-5 : tie.Need-returns-5
 returns-5 c =
-    let known = c .before .before .before .before .before .before in
+    let answer = c .before .before in
+    let status = answer .before .before in
+    let known = status .before .before .before in
     let told = known .before .command3 .given in
     let begun = known .before .before .before .before .before in
     let a = begun .args in
-    met-as (a .buffer .now)
-    (left-as begun (told .1) ∙ carried-query (a .state) (a .message .payload) (a .image .now) (length (a .buffer .now)) (told .0 .0))
-    (rw (sub-zero (told .0 .0)) at (c .before .before .reply2 .ensures))
+    let n = told .0 .0 in
+    let p = a .message .payload in
+    sent-as (a .buffer .now) (left-as begun (told .1) ∙ carried-query (a .state) p (a .image .now) (length (a .buffer .now)) n)
+    (sent-fitted (answerBytes (statusOf (a .state)) (a .image .now) (take n p)) (a .buffer .now) (a .state)
+    (query-listable n p (legal begun (told .1))) (rw (status .status-of2 .ensures, sub-zero n) at (answer .answer2 .ensures)))
 
 -- ---- all others
 
@@ -153,14 +147,14 @@ plain-is (packets ids) t = absurd t
 
 returns-6 : tie.Need-returns-6
 returns-6 c =
-    let begun = c .before .before .before .before .before in
+    let begun = c .before .before .before .before in
     let a = begun .args in
     let x = a .message .command in
     let p = a .message .payload in
     let tags : List ℕ = fromTo 0 17 ++ (21 ∷ 22 ∷ 23 ∷ 24 ∷ []) in
-    let t = of-tags (λ (y : Command). plain (effectOf y p .needs)) tags (λ a b d v w. tt) x (c .before .before .match .keys4) in
-    met-gives (a .buffer .now) (carried-plain (a .state) p (a .image .now) (length (a .buffer .now)) x (plain-is (effectOf x p .needs) t))
-    (c .give4 .ensures ∙ ap (λ (s : State). answered (gives 0 s)) (c .before .effect2 .ensures))
+    let t = of-tags (λ (y : Command). plain (effectOf y p .needs)) tags (λ a b d v w. tt) x (c .before .match .keys4) in
+    sent-gives _ (a .buffer .now) (carried-plain (a .state) p (a .image .now) (length (a .buffer .now)) x (plain-is (effectOf x p .needs) t))
+    (c .done2 .ensures)
 
 pub carry-out-spec : {M : Type 1} → statement M
 carry-out-spec =
@@ -173,16 +167,16 @@ carry-out-spec =
     (λ c κs. search needs)
     returns-2
     (λ c κs. search needs)
+    (λ c. search needs)
+    (λ c. search needs)
+    (λ c κs. search needs)
     (λ c κs. search needs)
     (λ c. search needs)
     (λ c. search needs)
-    reply-requires
     (λ c. search needs)
     (λ c. search needs)
-    (λ c. search needs)
-    (λ c. search needs)
-    part-reply-end
-    reply-requires-2
+    part-answer-end
+    (λ c κs. search needs)
     (λ c κs. search needs)
     (λ c κs. search needs)
     returns-3

@@ -6,10 +6,10 @@ use Prim.Native.Nat.{ℕ}
 use lib.ListN.{length}
 use borrow.Author.Needs.{needs}
 use borrow.Author.Tests.{not-true, not-false}
+use Rattle.wire.specs.Replies.{refused, sentOf}
 use Rattle.command.specs.Layout.{refusalOf}
 use Rattle.command.specs.CommandTable.{allowedOf, legalOf}
-use Rattle.board.specs.Outcome.{gives, answered}
-use Rattle.board.proofs.OutcomeLaws.{met-as, met-gives}
+use Rattle.board.proofs.OutcomeLaws.{sent-as, sent-gives}
 use Rattle.board.proofs.JudgeLaws.{judge-as-such, judge-mode, judge-data, judge-left}
 use Rattle.board.proofs.judge.Statement.{statement}
 use Rattle.board.proofs.judge.Tie as tie
@@ -19,8 +19,8 @@ returns c =
     let test = c .before in
     let a = test .before .before .before .args in
     let r = test .before .refusal-of .ensures in
-    met-gives (a .buffer .now) (judge-as-such (a .state) (a .message) (a .image .now) (length (a .buffer .now)) (λ e. test .if1 .taken (r ∙ e)))
-    (c .give .ensures ∙ ap (λ (n : ℕ). answered (gives n (a .state))) r)
+    sent-gives (a .state) (a .buffer .now) (judge-as-such (a .state) (a .message) (a .image .now) (length (a .buffer .now)) (λ e. test .if1 .taken (r ∙ e)))
+    (c .refuse .ensures ∙ ap (λ (n : ℕ). sentOf (refused n)) r)
 
 -- what the tests tell
 offered : (c : tie.Else1) → refusalOf (c .before .before .before .args .message .command) ≡ 0
@@ -37,10 +37,10 @@ returns-2 c =
     let test = c .before in
     let begun = test .before .before in
     let a = begun .before .before .before .args in
-    met-gives (a .buffer .now)
+    sent-gives (a .state) (a .buffer .now)
     (judge-mode (a .state) (a .message) (a .image .now) (length (a .buffer .now)) (offered begun)
     (sym (test .before .allowed .ensures) ∙ not-true _ (test .if2 .taken)))
-    (c .give2 .ensures)
+    (c .refuse2 .ensures)
 
 returns-3 : tie.Need-returns-3
 returns-3 c =
@@ -48,10 +48,10 @@ returns-3 c =
     let mode = test .before .before in
     let begun = mode .before .before in
     let a = begun .before .before .before .args in
-    met-gives (a .buffer .now)
+    sent-gives (a .state) (a .buffer .now)
     (judge-data (a .state) (a .message) (a .image .now) (length (a .buffer .now)) (offered begun) (allowed mode)
     (sym (test .before .legal .ensures) ∙ not-true _ (test .if3 .taken)))
-    (c .give3 .ensures)
+    (c .refuse3 .ensures)
 
 returns-4 : tie.Need-returns-4
 returns-4 c =
@@ -59,7 +59,7 @@ returns-4 c =
     let mode = test .before .before in
     let begun = mode .before .before in
     let a = begun .before .before .before .args in
-    met-as (a .buffer .now) (judge-left (a .state) (a .message) (a .image .now) (length (a .buffer .now)) (offered begun) (allowed mode) (legal test))
+    sent-as (a .buffer .now) (judge-left (a .state) (a .message) (a .image .now) (length (a .buffer .now)) (offered begun) (allowed mode) (legal test))
     (c .before .before .carry-out .ensures)
 
 pub judge-spec : {M : Type 1} → statement M

@@ -1,23 +1,28 @@
 -- `board::run` meets its contract: the loop carries the partial frame, and the rest of the record stays.
 -- Assumes nothing.
-use mathlib.Core.Path.{_≡_, refl, sym, ap, subst, _∙_}
-use mathlib.Core.Bool.{true, false}
-use Prim.Native.Nat.{_+_, _-_, _≤_, _<_}
+use mathlib.Core.Path.{_≡_, refl, sym, ap, ap₂, subst, _∙_}
+use mathlib.Core.Bool.{false}
+use Prim.Native.Nat.{ℕ, _+_, _-_, _≤_, _<_}
 use native.Mathlib.Omega.{arith}
 use lib.ListN.{length, getD}
 use borrow.Author.Needs.{needs}
 use borrow.Author.Tests.{not-true, not-false}
 use Rattle.wire.proofs.BoolLaws.{to-T, cond-false}
-use Rattle.frame.specs.Push.{pushOf}
+use Rattle.frame.specs.Push.{pushOf, emptyPartial}
+use Rattle.frame.specs.declared.Partial.{Partial}
 use Rattle.frame.specs.declared.Pushed.{Pushed}
+use Rattle.command.specs.Layout.{decodeOf}
+use Rattle.command.specs.CommandTable.{legalOf}
+use Rattle.command.specs.declared.Message.{Message}
 use Rattle.state.specs.State.{withPartial}
 use Rattle.state.specs.Accepted.{acceptedOf}
 use Rattle.state.specs.declared.State.{State}
 use Rattle.board.specs.Outcome.{gives}
-use Rattle.board.specs.Calls.{fedOf, performed, runOf, ranAs}
-use Rattle.board.specs.declared.Answer.{Answer}
-use Rattle.board.proofs.OutcomeLaws.{nothing-written}
-use Rattle.board.proofs.RunLaws.{ran-met, ran, ran-beside, Going, going-start, going-end, going-on, going-done}
+use Rattle.board.specs.Judge.{effectIn, judgeOf}
+use Rattle.board.specs.Calls.{performed, runOf, ranAs}
+use Rattle.board.proofs.OutcomeLaws.{MetSent, sent-number}
+use Rattle.board.proofs.JudgeLaws.{judge-legal}
+use Rattle.board.proofs.RunLaws.{ran-met, ran-gives, sent-of, ran-refused, ran-done, Going, going-start, going-end, going-on, going-done}
 use Rattle.board.proofs.run.Statement.{statement}
 use Rattle.board.proofs.run.Tie as tie
 
@@ -28,12 +33,11 @@ abbrev μ-loop : tie.MeasureT-loop
 μ-loop state bytes image buffer₀ partial₀ read₀ buffer partial read = length bytes - read
 
 returns : tie.Need-returns Inv-loop μ-loop
-unfolding runOf ranAs
+unfolding runOf
 returns c =
-    let a = c .before .before .before .before .args in
-    let e = sym (c .before .accepts .ensures) ∙ not-true _ (c .if1 .taken) in
-    ran-met (a .buffer .now) (cond-false (acceptedOf (a .state)) _ (performed (gives 8 (a .state)) 0) e)
-    (refl, nothing-written 8 (a .state) (a .buffer .now))
+    let a = c .before .before .before .before .before .args in
+    let e = sym (c .before .before .accepts .ensures) ∙ not-true _ (c .before .if1 .taken) in
+    ran-gives (a .buffer .now) (cond-false (acceptedOf (a .state)) _ (performed (gives 8 (a .state)) 0) e) (c .stop .ensures)
 
 loop-holds : tie.Need-loop-holds Inv-loop μ-loop
 loop-holds c =
@@ -73,37 +77,82 @@ loop-again c =
     )
 
 returns-2 : tie.Need-returns-2 Inv-loop μ-loop
-unfolding ranAs
 returns-2 c =
-    let loop = c .before .before .loop in
-    let a = c .before .before .before .before .before .before .before .before .args in
-    let h : length (a .bytes .now) ≤ loop .read = omega (arith, c .before .if2 .taken) in
-    ran-met (a .buffer .now) (going-end (a .state) (a .bytes .now) (a .image .now) (length (a .buffer .now)) (loop .inv .1) h) (
-      ap (λ (s : State). record { number = 9; length = 0; state = s; read = loop .read }) (c .with-partial .ensures),
-      loop .inv .0 ∙ nothing-written 9 (withPartial (loop .partial) (a .state)) (a .buffer .now),
-    )
+    let at-loop = c .before .before .before in
+    let loop = at-loop .loop in
+    let a = at-loop .before .before .before .before .before .before .args in
+    let h : length (a .bytes .now) ≤ loop .read = omega (arith, c .before .before .if2 .taken) in
+    rw (loop .inv .0)
+    (ran-gives (a .buffer .now) (going-end (a .state) (a .bytes .now) (a .image .now) (length (a .buffer .now)) (loop .inv .1) h)
+    (c .stop2 .ensures ∙ ap (λ (s : State). ranAs (performed (gives 9 s) (loop .read))) (c .before .with-partial .ensures)))
+
+-- the frame is whole, and its command was judged
+module _ (c : tie.After-with-partial2 Inv-loop μ-loop) where
+  abbrev judge : tie.After-judge Inv-loop μ-loop
+  judge = c .before .before .before .before
+
+  abbrev push : tie.After-push Inv-loop μ-loop
+  push = judge .before .before .before .before .before .before
+
+  abbrev message : Message
+  message = decodeOf (pushed push .partial .bytes)
+
+  abbrev read : ℕ
+  read = push .before .before .before .loop .read + 1
+
+  says : judge .before .before .decode .result ≡ message
+  says = judge .before .before .decode .ensures ∙ ap (λ (x : Pushed). decodeOf (x .partial .bytes)) (push .push .ensures)
+
+  cleared : c .with-partial2 .result ≡ withPartial emptyPartial (start push .args .state)
+  cleared = c .with-partial2 .ensures ∙ ap (λ (p : Partial). withPartial p (start push .args .state)) (c .before .empty .ensures)
+
+  met : MetSent (judgeOf (start push .args .state) message (start push .args .image .now) (length (start push .args .buffer .now))) (judge .judge .result) (start push .args .buffer .now) (judge .judge .last .1 .1 .1 .0)
+  met = sent-of (start push .args .state) (start push .args .image .now) says (push .before .before .before .loop .inv .0) (judge .judge .ensures)
+
+  whole : let a = start push .args in
+      runOf (a .state) (a .bytes .now) (a .image .now) (length (a .buffer .now))
+      ≡ performed (judgeOf (withPartial emptyPartial (a .state)) message (a .image .now) (length (a .buffer .now))) read
+  whole =
+      let a = start push .args in
+      going-done (a .state) (a .bytes .now) (a .image .now) (length (a .buffer .now)) (going push) (more (push .before .before))
+      (ap (λ (x : Pushed). x .complete) (sym (push .push .ensures)) ∙ judge .before .before .before .before .before .if3 .taken)
 
 returns-3 : tie.Need-returns-3 Inv-loop μ-loop
 returns-3 c =
-    let fed = c .before .before .before in
-    let push = fed .before .before .before in
-    let loop = push .before .before .before .loop in
-    let a = start push .args in
-    let e : pushed push .complete ≡ true = ap (λ (x : Pushed). x .complete) (sym (push .push .ensures)) ∙ fed .before .before .if3 .taken in
-    let o = fedOf (a .state) (pushed push) (a .image .now) (length (a .buffer .now)) in
-    let m = rw (loop .inv .0, push .push .ensures) at (fed .fed .ensures) in
-    ran-met (a .buffer .now) (going-done (a .state) (a .bytes .now) (a .image .now) (length (a .buffer .now)) (going push) (more (push .before .before)) e)
-    (ap (λ (x : Answer). ran x (loop .read + 1)) (m .0) ∙ ran-beside o (loop .read + 1), m .1)
+    let at = c .before .before .before in
+    let a = start (push at) .args in
+    ran-met (a .buffer .now) (whole at)
+    (ran-refused (a .state) (message at) (a .image .now) (a .buffer .now) (read at) (met at) (c .before .if4 .taken)
+    (c .stop3 .ensures ∙ ap (λ (s : State). ranAs (performed (gives (judge at .judge .result .number) s) (read at))) (cleared at)))
+
+effect-requires : tie.Need-effect-requires Inv-loop μ-loop
+effect-requires c κs =
+    let at = c .before .before in
+    let a = start (push at) .args in
+    ap legalOf (says at) ∙ judge-legal (a .state) (message at) (a .image .now) (length (a .buffer .now)) (sym (sent-number _ (met at .0)) ∙ c .if4 .left)
+
+returns-4 : tie.Need-returns-4 Inv-loop μ-loop
+returns-4 c =
+    let at = c .before .before .before in
+    let a = start (push at) .args in
+    ran-met (a .buffer .now) (whole at)
+    (ran-done (a .state) (message at) (a .image .now) (a .buffer .now) (read at) (met at) (c .before .if4 .left)
+    (c .effect .ensures ∙ ap₂ (λ (m : Message) (s : State). effectIn m .sets s) (says at) (cleared at)))
 
 same-length : tie.Need-same-length Inv-loop μ-loop
-same-length c = ap length (c .before .before .loop .inv .0)
+same-length c = ap length (c .before .before .before .loop .inv .0)
+
+kept-length : (c : tie.After-with-partial2 Inv-loop μ-loop) → length (judge c .judge .last .1 .1 .1 .0) ≡ length (start (push c) .args .buffer .now)
+kept-length c =
+    let loop = push c .before .before .before .loop in
+    let kept : length (judge c .judge .last .1 .1 .1 .0) ≡ length (loop .buffer) = search needs in
+    kept ∙ ap length (loop .inv .0)
 
 same-length-2 : tie.Need-same-length-2 Inv-loop μ-loop
-same-length-2 c =
-    let fed = c .before .before .before in
-    let loop = fed .before .before .before .before .before .before .loop in
-    let kept : length (fed .fed .last .1 .1 .1 .0) ≡ length (loop .buffer) = search needs in
-    kept ∙ ap length (loop .inv .0)
+same-length-2 c = kept-length (c .before .before .before)
+
+same-length-3 : tie.Need-same-length-3 Inv-loop μ-loop
+same-length-3 c = kept-length (c .before .before .before)
 
 pub run-spec : {M : Type 1} → statement M
 run-spec =
@@ -112,16 +161,25 @@ run-spec =
     Inv-loop
     μ-loop
     (λ c κs. search needs)
+    (λ c κs. search needs)
     returns
     loop-holds
+    (λ c κs. search needs)
     (λ c κs. search needs)
     (λ c. let h = more (c .before) in omega arith)
     (λ c κs. search needs)
     (λ c. search needs)
     (λ c κs. search needs)
+    (λ c κs. search needs)
+    (λ c κs. search needs)
+    (λ c κs. search needs)
+    (λ c κs. search needs)
+    effect-requires
     loop-less
     loop-again
     same-length
     returns-2
     same-length-2
-    returns-3)
+    returns-3
+    same-length-3
+    returns-4)
