@@ -1,6 +1,7 @@
 pub mod FrameTableLaws
 pub mod PushLaws
 pub mod ReachLaws
+pub mod AbsorbLaws
 pub mod StoredLaws
 pub mod Reached
 pub mod RunTableLaws

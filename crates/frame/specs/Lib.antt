@@ -1,5 +1,6 @@
 pub mod FrameTable
 pub mod Push
+pub mod Absorb
 pub mod Reach
 pub mod RunTable
 pub mod Cases

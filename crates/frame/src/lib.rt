@@ -12,8 +12,12 @@
 // Proved (specs/Cut.antt): whatever the data bytes are, none is read as an opcode, and the byte after them is; so of 511 bytes 128 the
 // last is read as one, and 511 is the least such number. The cut knows nothing of modes, nor of whether a command will be refused.
 ghost use mathlib.Core.Path.{_≡_};
+ghost use mathlib.Core.Bool.{true};
+ghost use Prim.Native.Nat.{_<_};
+ghost use lib.ListN.{length};
 ghost use Rattle.frame.specs.FrameTable.{dataLength, headerSize};
 ghost use Rattle.frame.specs.Push.{bodySizeAs, storesBodyAs, appendOf, measureOf, pushOf, emptyPartial, nextOf};
+ghost use Rattle.frame.specs.Absorb.{absorbOf};
 ghost use Rattle.frame.specs.Reach.{reachableOf};
 
 // The most notes of a song, and the most ids of a list, that are legal.
@@ -44,6 +48,13 @@ pub struct Partial {
 pub struct Pushed {
     pub partial: Partial,
     pub complete: bool,
+}
+
+// What the bytes of a slice leave; count of them are taken, and complete where the last of these was the frame's last.
+pub struct Absorbed {
+    pub partial: Partial,
+    pub complete: bool,
+    pub count: usize,
 }
 
 // The one place where framing is decided. One test over opcodes 0 to 255 holds this match against the frame table.
@@ -161,6 +172,45 @@ pub fn push(p: Partial, b: u8) -> Pushed
             remaining: remaining - 1,
         },
         complete: remaining == 1,
+    }
+}
+
+// As many bytes at once as surely belong to one frame: one while its length is not known, and then those that remain. The crates above see to it that the
+// frame is reachable and that there is a byte: it is no call of the board.
+pub fn absorb(p: Partial, bytes: &[u8]) -> Absorbed
+    requires { ⌜ reachableOf p ≡ true ⌝ }
+    requires { ⌜ 0 < length (now bytes) ⌝ }
+    ensures { λ r. ⌜ r ≡ absorbOf p (now (bytes .entry)) ⌝ }
+{
+    let remaining = p.remaining;
+    if remaining == 0 {
+        let pushed = measure(append(p, bytes[0]));
+        let partial = pushed.partial;
+        return Absorbed {
+            partial,
+            complete: pushed.complete,
+            count: 1,
+        };
+    }
+    let n = if remaining < bytes.len() {
+        remaining
+    } else {
+        bytes.len()
+    };
+    let mut held = p.bytes;
+    let mut count = p.count;
+    let length = data_length(held[0]);
+    if stores_body(length, held) {
+        count = wire::put_part(bytes, 0, n, &mut held, count);
+    }
+    Absorbed {
+        partial: Partial {
+            bytes: held,
+            count,
+            remaining: remaining - n,
+        },
+        complete: remaining == n,
+        count: n,
     }
 }
 
