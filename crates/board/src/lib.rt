@@ -220,10 +220,10 @@ pub fn run(state: State, bytes: &[u8], image: &[u8; 40], buffer: &mut [u8]) -> R
         if read == bytes.len() {
             break stop(WAITING, with_partial(state, partial), read);
         }
-        let pushed = frame::push(partial, bytes[read]);
-        read += 1;
-        if pushed.complete {
-            let whole = pushed.partial;
+        let absorbed = frame::absorb(partial, &bytes[read..]);
+        read += absorbed.count;
+        if absorbed.complete {
+            let whole = absorbed.partial;
             let held = whole.bytes;
             let message = command::decode(held);
             let sent = judge(state, message, image, buffer);
@@ -238,7 +238,7 @@ pub fn run(state: State, bytes: &[u8], image: &[u8; 40], buffer: &mut [u8]) -> R
                 read,
             };
         }
-        partial = pushed.partial;
+        partial = absorbed.partial;
     };
     ran
 }

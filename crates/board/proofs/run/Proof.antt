@@ -4,13 +4,17 @@ use mathlib.Core.Path.{_≡_, refl, sym, ap, ap₂, subst, _∙_}
 use mathlib.Core.Bool.{false}
 use Prim.Native.Nat.{ℕ, _+_, _-_, _≤_, _<_}
 use native.Mathlib.Omega.{arith}
-use lib.ListN.{length, getD}
+use lib.ListN.{length, getD, drop, length-drop}
+use mir.Syntax.{w64}
+use mir.Val.{Fits}
 use borrow.Author.Needs.{needs}
 use borrow.Author.Tests.{not-true, not-false}
-use Rattle.wire.proofs.BoolLaws.{to-T, cond-false}
-use Rattle.frame.specs.Push.{pushOf, emptyPartial}
+use Rattle.wire.proofs.BoolLaws.{is-true, to-T, cond-false}
+use Rattle.frame.specs.Push.{emptyPartial}
+use Rattle.frame.specs.Reach.{reachableOf}
+use Rattle.frame.specs.Absorb.{absorbOf}
+use Rattle.frame.specs.declared.Absorbed.{Absorbed}
 use Rattle.frame.specs.declared.Partial.{Partial}
-use Rattle.frame.specs.declared.Pushed.{Pushed}
 use Rattle.command.specs.Layout.{decodeOf}
 use Rattle.command.specs.CommandTable.{legalOf}
 use Rattle.command.specs.declared.Message.{Message}
@@ -22,7 +26,8 @@ use Rattle.board.specs.Judge.{effectIn, judgeOf}
 use Rattle.board.specs.Calls.{performed, runOf, ranAs}
 use Rattle.board.proofs.OutcomeLaws.{MetSent, sent-number}
 use Rattle.board.proofs.JudgeLaws.{judge-legal}
-use Rattle.board.proofs.RunLaws.{ran-met, ran-gives, sent-of, ran-refused, ran-done, Going, going-start, going-end, going-on, going-done}
+use Rattle.board.proofs.CallsLaws.{accepted-reachable}
+use Rattle.board.proofs.RunLaws.{ran-met, ran-gives, sent-of, ran-refused, ran-done, Going, rest-is, going-start, going-end, absorbed-inside, absorbed-on, absorbed-done}
 use Rattle.board.proofs.run.Statement.{statement}
 use Rattle.board.proofs.run.Tie as tie
 
@@ -50,30 +55,60 @@ loop-holds c =
 more : (c : tie.Else2 Inv-loop μ-loop) → c .before .loop .read < length (c .before .before .before .before .before .before .before .args .bytes .now)
 more c = let g = c .before .loop .inv .1 .inside in omega arith
 
-loop-less : tie.Need-loop-less Inv-loop μ-loop
-loop-less c = let h = more (c .before .before .before .before) in omega arith
+-- what was absorbed
+module _ (c : tie.After-absorb Inv-loop μ-loop) where
+  abbrev at-loop : tie.At-loop Inv-loop μ-loop
+  at-loop = c .before .before .before
 
--- the byte that was pushed
-module _ (c : tie.After-push Inv-loop μ-loop) where
   abbrev start : tie.Start Inv-loop μ-loop
-  start = c .before .before .before .before .before .before .before .before .before
+  start = at-loop .before .before .before .before .before .before
 
-  abbrev going : Going (start .args .state) (start .args .bytes .now) (start .args .image .now) (length (start .args .buffer .now)) (c .before .before .before .loop .partial) (c .before .before .before .loop .read)
-  going = c .before .before .before .loop .inv .1
+  abbrev absorbed : Absorbed
+  absorbed = absorbOf (at-loop .loop .partial) (drop (at-loop .loop .read) (start .args .bytes .now))
 
-  abbrev pushed : Pushed
-  pushed = pushOf (c .before .before .before .loop .partial) (getD (start .args .bytes .now) (c .before .before .before .loop .read) 0)
+  is-absorbed : c .absorb .result ≡ absorbed
+  is-absorbed = c .absorb .ensures ∙ ap (absorbOf (at-loop .loop .partial)) (rest-is (start .args .bytes .now) (at-loop .loop .read))
+
+  going : Going (start .args .state) (start .args .bytes .now) (start .args .image .now) (length (start .args .buffer .now)) (at-loop .loop .partial) (at-loop .loop .read)
+  going = at-loop .loop .inv .1
+
+  small : (i : ℕ) → getD (start .args .bytes .now) i 0 < 256
+  small i = omega (arith, at-loop .before .before .before .before .before .shared-slice-known .given i)
+
+  inside : (1 ≤ c .absorb .result .count) × (at-loop .loop .read + c .absorb .result .count ≤ length (start .args .bytes .now))
+  inside =
+      let a = start .args in
+      let i = absorbed-inside (a .state) (a .bytes .now) (a .image .now) (length (a .buffer .now)) small going (more (c .before .before)) in
+      let e = ap (λ (x : Absorbed). x .count) is-absorbed in
+      (omega arith, omega arith)
+
+add-read : tie.Need-add-read Inv-loop μ-loop
+add-read c =
+    let i = inside (c .before) in
+    let l : Fits w64 (length (start (c .before) .args .bytes .now)) = search needs in
+    let x : at-loop (c .before) .loop .read + c .before .absorb .result .count < 18446744073709551616 = omega arith in
+    omega arith
+
+absorb-requires : tie.Need-absorb-requires Inv-loop μ-loop
+absorb-requires c κs =
+    let loop = c .before .before .loop in
+    let a = c .before .before .before .before .before .before .before .before .args in
+    let e = ap length (rest-is (a .bytes .now) (loop .read)) ∙ length-drop (loop .read) (a .bytes .now) in
+    let h = more (c .before) in
+    (is-true (reachableOf (loop .partial)) (accepted-reachable (withPartial (loop .partial) (a .state)) (loop .inv .1 .accepted)), omega arith)
+
+loop-less : tie.Need-loop-less Inv-loop μ-loop
+loop-less c = let i = inside (c .before .before .before) in let h = more (c .before .before .before .before .before) in omega arith
 
 loop-again : tie.Need-loop-again Inv-loop μ-loop
 loop-again c =
-    let push = c .before .before in
-    let a = start push .args in
-    let n = push .before .before .before .loop .read in
-    let small : getD (a .bytes .now) n 0 < 256 = omega (arith, push .before .shared-slice-known2 .given n) in
-    let e : pushed push .complete ≡ false = ap (λ (x : Pushed). x .complete) (sym (push .push .ensures)) ∙ c .before .if3 .left in
-    let g = going-on (a .state) (a .bytes .now) (a .image .now) (length (a .buffer .now)) (going push) (more (push .before .before)) small e in (
-      push .before .before .before .loop .inv .0,
-      subst (λ (x : Pushed). Going (a .state) (a .bytes .now) (a .image .now) (length (a .buffer .now)) (x .partial) (n + 1)) (sym (push .push .ensures)) g,
+    let taken = c .before .before .before in
+    let a = start taken .args in
+    let n = at-loop taken .loop .read in
+    let e : absorbed taken .complete ≡ false = ap (λ (x : Absorbed). x .complete) (sym (is-absorbed taken)) ∙ c .before .if3 .left in
+    let g = absorbed-on (a .state) (a .bytes .now) (a .image .now) (length (a .buffer .now)) (small taken) (going taken) (more (taken .before .before)) e in (
+      at-loop taken .loop .inv .0,
+      subst (λ (x : Absorbed). Going (a .state) (a .bytes .now) (a .image .now) (length (a .buffer .now)) (x .partial) (n + x .count)) (sym (is-absorbed taken)) g,
     )
 
 returns-2 : tie.Need-returns-2 Inv-loop μ-loop
@@ -91,36 +126,38 @@ module _ (c : tie.After-with-partial2 Inv-loop μ-loop) where
   abbrev judge : tie.After-judge Inv-loop μ-loop
   judge = c .before .before .before .before
 
-  abbrev push : tie.After-push Inv-loop μ-loop
-  push = judge .before .before .before .before .before .before
+  abbrev taken : tie.After-absorb Inv-loop μ-loop
+  taken = judge .before .before .before .before .before .before .before
 
   abbrev message : Message
-  message = decodeOf (pushed push .partial .bytes)
+  message = decodeOf (absorbed taken .partial .bytes)
 
   abbrev read : ℕ
-  read = push .before .before .before .loop .read + 1
+  read = at-loop taken .loop .read + taken .absorb .result .count
 
   says : judge .before .before .decode .result ≡ message
-  says = judge .before .before .decode .ensures ∙ ap (λ (x : Pushed). decodeOf (x .partial .bytes)) (push .push .ensures)
+  says = judge .before .before .decode .ensures ∙ ap (λ (x : Absorbed). decodeOf (x .partial .bytes)) (is-absorbed taken)
 
-  cleared : c .with-partial2 .result ≡ withPartial emptyPartial (start push .args .state)
-  cleared = c .with-partial2 .ensures ∙ ap (λ (p : Partial). withPartial p (start push .args .state)) (c .before .empty .ensures)
+  cleared : c .with-partial2 .result ≡ withPartial emptyPartial (start taken .args .state)
+  cleared = c .with-partial2 .ensures ∙ ap (λ (p : Partial). withPartial p (start taken .args .state)) (c .before .empty .ensures)
 
-  met : MetSent (judgeOf (start push .args .state) message (start push .args .image .now) (length (start push .args .buffer .now))) (judge .judge .result) (start push .args .buffer .now) (judge .judge .last .1 .1 .1 .0)
-  met = sent-of (start push .args .state) (start push .args .image .now) says (push .before .before .before .loop .inv .0) (judge .judge .ensures)
+  met : MetSent (judgeOf (start taken .args .state) message (start taken .args .image .now) (length (start taken .args .buffer .now))) (judge .judge .result) (start taken .args .buffer .now) (judge .judge .last .1 .1 .1 .0)
+  met = sent-of (start taken .args .state) (start taken .args .image .now) says (at-loop taken .loop .inv .0) (judge .judge .ensures)
 
-  whole : let a = start push .args in
+  whole : let a = start taken .args in
       runOf (a .state) (a .bytes .now) (a .image .now) (length (a .buffer .now))
       ≡ performed (judgeOf (withPartial emptyPartial (a .state)) message (a .image .now) (length (a .buffer .now))) read
   whole =
-      let a = start push .args in
-      going-done (a .state) (a .bytes .now) (a .image .now) (length (a .buffer .now)) (going push) (more (push .before .before))
-      (ap (λ (x : Pushed). x .complete) (sym (push .push .ensures)) ∙ judge .before .before .before .before .before .if3 .taken)
+      let a = start taken .args in
+      let m = judgeOf (withPartial emptyPartial (a .state)) message (a .image .now) (length (a .buffer .now)) in
+      absorbed-done (a .state) (a .bytes .now) (a .image .now) (length (a .buffer .now)) (small taken) (going taken) (more (taken .before .before))
+      (ap (λ (x : Absorbed). x .complete) (sym (is-absorbed taken)) ∙ judge .before .before .before .before .before .if3 .taken)
+      ∙ ap (λ (x : Absorbed). performed m (at-loop taken .loop .read + x .count)) (sym (is-absorbed taken))
 
 returns-3 : tie.Need-returns-3 Inv-loop μ-loop
 returns-3 c =
     let at = c .before .before .before in
-    let a = start (push at) .args in
+    let a = start (taken at) .args in
     ran-met (a .buffer .now) (whole at)
     (ran-refused (a .state) (message at) (a .image .now) (a .buffer .now) (read at) (met at) (c .before .if4 .taken)
     (c .stop3 .ensures ∙ ap (λ (s : State). ranAs (performed (gives (judge at .judge .result .number) s) (read at))) (cleared at)))
@@ -128,13 +165,13 @@ returns-3 c =
 effect-requires : tie.Need-effect-requires Inv-loop μ-loop
 effect-requires c κs =
     let at = c .before .before in
-    let a = start (push at) .args in
+    let a = start (taken at) .args in
     ap legalOf (says at) ∙ judge-legal (a .state) (message at) (a .image .now) (length (a .buffer .now)) (sym (sent-number _ (met at .0)) ∙ c .if4 .left)
 
 returns-4 : tie.Need-returns-4 Inv-loop μ-loop
 returns-4 c =
     let at = c .before .before .before in
-    let a = start (push at) .args in
+    let a = start (taken at) .args in
     ran-met (a .buffer .now) (whole at)
     (ran-done (a .state) (message at) (a .image .now) (a .buffer .now) (read at) (met at) (c .before .if4 .left)
     (c .effect .ensures ∙ ap₂ (λ (m : Message) (s : State). effectIn m .sets s) (says at) (cleared at)))
@@ -142,9 +179,9 @@ returns-4 c =
 same-length : tie.Need-same-length Inv-loop μ-loop
 same-length c = ap length (c .before .before .before .loop .inv .0)
 
-kept-length : (c : tie.After-with-partial2 Inv-loop μ-loop) → length (judge c .judge .last .1 .1 .1 .0) ≡ length (start (push c) .args .buffer .now)
+kept-length : (c : tie.After-with-partial2 Inv-loop μ-loop) → length (judge c .judge .last .1 .1 .1 .0) ≡ length (start (taken c) .args .buffer .now)
 kept-length c =
-    let loop = push c .before .before .before .loop in
+    let loop = at-loop (taken c) .loop in
     let kept : length (judge c .judge .last .1 .1 .1 .0) ≡ length (loop .buffer) = search needs in
     kept ∙ ap length (loop .inv .0)
 
@@ -166,9 +203,11 @@ run-spec =
     loop-holds
     (λ c κs. search needs)
     (λ c κs. search needs)
-    (λ c. let h = more (c .before) in omega arith)
-    (λ c κs. search needs)
+    (λ c. let h = more c in omega arith)
+    (λ c. let h = more c in omega arith)
     (λ c. search needs)
+    absorb-requires
+    add-read
     (λ c κs. search needs)
     (λ c κs. search needs)
     (λ c κs. search needs)
