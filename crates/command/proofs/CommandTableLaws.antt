@@ -117,9 +117,16 @@ pub signed : (rs : List Range) {x : Bool} {v : ℤ} → SFits w16 v → x ≡ is
 signed rs {x} {v} f e = rw (toZ-ofZ w16 v f) at e
 
 -- two numbers, as they are tested
-pub two-legal : (m : Message) (a b : Bool) {y : Command} → m .command ≡ y → legalOf (message y (m .payload)) ≡ ((a && (b && true)) && true)
-    → (a && b) ≡ legalOf m
-two-legal m a b e f = sym (f ∙ and-true (a && (b && true)) ∙ ap (λ (x : Bool). a && x) (and-true b)) ∙ legal-as m e
+two-tested : (a b : Bool) → ((a && (b && true)) && true) ≡ (a && b)
+two-tested a b = simp and-true
+
+pub drive-tested : (v r : ℤ) (p : List ℕ) → legalOf (message (Drive v r) p) ≡ (isLegal speed v && isLegal radius r)
+unfolding rowOf legalOf
+drive-tested v r p = two-tested (isLegal speed v) (isLegal radius r)
+
+pub direct-tested : (v w : ℤ) (p : List ℕ) → legalOf (message (Direct v w) p) ≡ (isLegal speed v && isLegal speed w)
+unfolding rowOf legalOf
+direct-tested v w p = two-tested (isLegal speed v) (isLegal speed w)
 
 -- ---- the legal data of commands with more than one data byte, for every value
 
@@ -134,12 +141,10 @@ radius-is (pos (suc n)) = simp (le-leb 1 (suc n) (omega arith), lt-leb (suc n) 0
 radius-is (negsuc n) = simp (leb·zero n, and-true, or-none)
 
 pub drive-legal : (v r : ℤ) (p : List ℕ) → legalOf (message (Drive v r) p) ≡ (isSpeed v && isRadius r)
-unfolding rowOf legalOf
-drive-legal v r p = and-true (isLegal speed v && (isLegal radius r && true)) ∙ ap₂ _&&_ (speed-is v) (and-true (isLegal radius r) ∙ radius-is r)
+drive-legal v r p = drive-tested v r p ∙ ap₂ _&&_ (speed-is v) (radius-is r)
 
 pub direct-legal : (v w : ℤ) (p : List ℕ) → legalOf (message (Direct v w) p) ≡ (isSpeed v && isSpeed w)
-unfolding rowOf legalOf
-direct-legal v w p = and-true (isLegal speed v && (isLegal speed w && true)) ∙ ap₂ _&&_ (speed-is v) (and-true (isLegal speed w) ∙ speed-is w)
+direct-legal v w p = direct-tested v w p ∙ ap₂ _&&_ (speed-is v) (speed-is w)
 
 pub duties-legal : (a b d : ℕ) (p : List ℕ) → legalOf (message (Duties a b d) p) ≡ (leb a 128 && (leb b 128 && leb d 128))
 unfolding rowOf legalOf

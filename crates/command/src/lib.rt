@@ -254,6 +254,15 @@ pub fn decode(bytes: [u8; 35]) -> Message
     Message { command, payload }
 }
 
+// The last legal code for the serial speed, digital outputs, song number and duty. A state record keeps such numbers too, and its check uses these names.
+pub const LAST_BAUD: u8 = 11;
+
+pub const LAST_OUTPUTS: u8 = 7;
+
+pub const LAST_SONG: u8 = 15;
+
+pub const FULL_DUTY: u8 = 128;
+
 // From a first number to a last one.
 fn is_in(first: i16, last: i16, v: i16) -> bool
     ensures { λ r. ⌜ r ≡ isIn (first to last) v ⌝ }
@@ -261,13 +270,15 @@ fn is_in(first: i16, last: i16, v: i16) -> bool
     first <= v && v <= last
 }
 
-fn is_speed(v: i16) -> bool
+// Whether a velocity is legal.
+pub fn is_speed(v: i16) -> bool
     ensures { λ r. ⌜ r ≡ isLegal speed v ⌝ }
 {
     is_in(-500, 500, v)
 }
 
-fn is_radius(v: i16) -> bool
+// Whether a radius is.
+pub fn is_radius(v: i16) -> bool
     ensures { λ r. ⌜ r ≡ isLegal radius v ⌝ }
 {
     is_in(-2000, -1, v)
@@ -283,18 +294,19 @@ pub fn legal(message: Message) -> bool
     let n = payload_size(command);
     let used = &payload[0..n];
     match command {
-        Command::Baud(code) => code <= 11,
+        Command::Baud(code) => code <= LAST_BAUD,
         Command::Drive(velocity, radius) => is_speed(velocity) && is_radius(radius),
         Command::Direct(right, left) => is_speed(right) && is_speed(left),
         Command::Drivers(bits) => bits <= 7,
-        Command::Duties(driver2, driver1, driver0) => driver2 <= 128
-            && (driver1 <= 128 && driver0 <= 128),
+        Command::Duties(driver2, driver1, driver0) => driver2 <= FULL_DUTY
+            && (driver1 <= FULL_DUTY && driver0 <= FULL_DUTY),
         // Any bytes. They are named, since the proof needs that each is one.
         Command::Leds(_bits, _color, _intensity) => true,
-        Command::Outputs(bits) => bits <= 7,
+        Command::Outputs(bits) => bits <= LAST_OUTPUTS,
         Command::Infrared(_code) => true,
-        Command::Song(number, notes) => number <= 15 && (1 <= notes && notes <= frame::LEGAL_COUNT),
-        Command::Play(number) => number <= 15,
+        Command::Song(number, notes) => number <= LAST_SONG
+            && (1 <= notes && notes <= frame::LEGAL_COUNT),
+        Command::Play(number) => number <= LAST_SONG,
         Command::Sensors(id) => id <= packet::LAST_ID,
         Command::QueryList(ids) => ids <= frame::LEGAL_COUNT && packet::listable(used),
         Command::Stream(ids) => ids <= frame::LEGAL_COUNT && packet::streamable(used),

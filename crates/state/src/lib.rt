@@ -17,9 +17,7 @@ ghost use mathlib.Core.Bool.{_&&_};
 ghost use Rattle.wire.specs.Lists.{all};
 ghost use Rattle.frame.specs.Reach.{reachableOf};
 ghost use Rattle.state.specs.State.{powerOn, motorsOff};
-ghost use Rattle.state.specs.Accepted.{orderNamed, offUnlessDriven, legalNumbers, wheelsLegal, dutiesLegal, motorsOk, keptOk, songOk, songsOk, streamOk, acceptedOf};
-use command::Command;
-use command::Message;
+ghost use Rattle.state.specs.Accepted.{orderNamed, offUnlessDriven, wheelsLegal, dutiesLegal, motorsOk, keptOk, songOk, songsOk, streamOk, acceptedOf};
 pub use compare::same;
 use frame::Partial;
 
@@ -123,16 +121,6 @@ pub fn power_on() -> State
     }
 }
 
-// Whether a command that uses no payload has legal data: the ranges of the record are those of the commands that set it.
-fn is_legal(command: Command) -> bool
-    ensures { λ r. ⌜ r ≡ legalNumbers command ⌝ }
-{
-    command::legal(Message {
-        command,
-        payload: [0u8; 32],
-    })
-}
-
 // A Drive order of velocity 0 is not off.
 fn motors_off(motors: Motors) -> bool
     ensures { λ r. ⌜ r ≡ motorsOff motors ⌝ }
@@ -155,8 +143,8 @@ fn wheels_ok(motors: Motors) -> bool
     let order = motors.order;
     match order {
         NO_ORDER => true,
-        DRIVE => is_legal(Command::Drive(motors.first, motors.second)),
-        DIRECT => is_legal(Command::Direct(motors.first, motors.second)),
+        DRIVE => command::is_speed(motors.first) && command::is_radius(motors.second),
+        DIRECT => command::is_speed(motors.first) && command::is_speed(motors.second),
         _ => false,
     }
 }
@@ -165,10 +153,11 @@ fn duties_legal(motors: Motors) -> bool
     ensures { λ r. ⌜ r ≡ dutiesLegal motors ⌝ }
 {
     let duties = motors.duties;
-    is_legal(Command::Duties(duties[2], duties[1], duties[0]))
+    duties[2] <= command::FULL_DUTY
+        && (duties[1] <= command::FULL_DUTY && duties[0] <= command::FULL_DUTY)
 }
 
-// The tests of a record, part by part.
+// The tests of a record, part by part. The ranges are those of the commands that set it, by the names that `command` and `packet` have for them.
 
 fn motors_ok(mode: u8, motors: Motors) -> bool
     ensures { λ r. ⌜ r ≡ motorsOk mode motors ⌝ }
@@ -181,7 +170,7 @@ fn motors_ok(mode: u8, motors: Motors) -> bool
 fn kept_ok(kept: Kept) -> bool
     ensures { λ r. ⌜ r ≡ keptOk kept ⌝ }
 {
-    is_legal(Command::Outputs(kept.outputs)) && is_legal(Command::Baud(kept.baud))
+    kept.outputs <= command::LAST_OUTPUTS && kept.baud <= command::LAST_BAUD
 }
 
 // Of a song that is not set all places are looked at, as many as the type says, which the compiler does at once.
@@ -216,7 +205,7 @@ fn songs_ok(songs: Songs) -> bool
 {
     let selected = songs.selected;
     let table = songs.table;
-    if !is_legal(Command::Play(selected)) {
+    if selected > command::LAST_SONG {
         return false;
     }
     if songs.playing && table[selected as usize].len == 0 {
@@ -225,16 +214,14 @@ fn songs_ok(songs: Songs) -> bool
     table_ok(table)
 }
 
-// The list is judged as 148 would send it, so that its rule on sizes is asked where the command asks it.
+// The ids in use are held to 148's rule, sizes included.
 fn stream_ok(stream: Stream) -> bool
     ensures { λ r. ⌜ r ≡ streamOk stream ⌝ }
 {
     let ids = stream.ids;
     let count = stream.count;
-    let mut payload = [0u8; 32];
-    wire::put_part(&ids, 0, 16, &mut payload, 0);
-    let command = Command::Stream(count);
-    command::legal(Message { command, payload }) && wire::clear_from(&ids, count as usize)
+    let n = count as usize;
+    count <= frame::LEGAL_COUNT && (packet::streamable(&ids[0..n]) && wire::clear_from(&ids, n))
 }
 
 fn partial_ok(partial: Partial) -> bool

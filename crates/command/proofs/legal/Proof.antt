@@ -1,6 +1,6 @@
 -- `command::legal` meets its contract: each arm knows the variant, and tests what its row says.
 -- Assumes nothing.
-use mathlib.Core.Path.{_≡_, refl, sym, ap, _∙_}
+use mathlib.Core.Path.{_≡_, sym, ap, _∙_}
 use mathlib.Core.Bool.{Bool, true, _&&_}
 use mathlib.Core.List.{List, _∷_}
 use Prim.Native.Nat.{ℕ, _-_, _≤_, _<_}
@@ -24,7 +24,7 @@ use Rattle.command.specs.declared.Command.the-variants.{Drive, Direct, D
 use Rattle.command.specs.declared.Message.{Message}
 use Rattle.command.proofs.VariantLaws.{of-tags}
 use Rattle.command.proofs.LayoutLaws.{small}
-use Rattle.command.proofs.CommandTableLaws.{legal-as, two-legal, signed, first-tested, second-tested, byte-legal, bytes-legal, ids-legal, duties-legal, song-is, first-decides, second-of-three, third-of-three, last-decides}
+use Rattle.command.proofs.CommandTableLaws.{legal-as, drive-tested, direct-tested, signed, first-tested, second-tested, byte-legal, bytes-legal, ids-legal, duties-legal, song-is, first-decides, second-of-three, third-of-three, last-decides}
 use Rattle.command.proofs.legal.Statement.{statement}
 use Rattle.command.proofs.legal.Tie as tie
 
@@ -50,12 +50,10 @@ any-notes c =
 -- a Drive's two numbers, and a Direct's, as they are tested
 module _ (m : Message) {v w : ℤ} where
   drive : m .command ≡ Drive v w → (isLegal speed v && isLegal radius w) ≡ legalOf m
-  unfolding rowOf legalOf
-  drive e = two-legal m (isLegal speed v) (isLegal radius w) e refl
+  drive e = sym (drive-tested v w (m .payload)) ∙ legal-as m e
 
   direct : m .command ≡ Direct v w → (isLegal speed v && isLegal speed w) ≡ legalOf m
-  unfolding rowOf legalOf
-  direct e = two-legal m (isLegal speed v) (isLegal speed w) e refl
+  direct e = sym (direct-tested v w (m .payload)) ∙ legal-as m e
 
 velocity : (c : tie.After-is-speed) → c .is-speed .result ≡ isLegal speed (c .before .before .command2 .given .0 .0)
 velocity c = signed speed (record { sfits = c .before .known-told2 .given .0 .1 }) (c .is-speed .ensures)

@@ -4,15 +4,15 @@ use mathlib.Core.Path.{_≡_, sym, ap, _∙_}
 use mathlib.Core.Bool.{true, _&&_}
 use mathlib.Core.List.{[]}
 use mathlib.Core.Logic.{⊎-elim}
-use Prim.Native.Nat.{_<_, _≤_}
+use Prim.Native.Nat.{_<_}
 use native.Mathlib.Omega.{arith}
 use lib.ListN.{length, getD, length-map}
 use borrow.Author.Needs.{needs}
-use borrow.Author.Tests.{eq-eqb, not-true, not-false, leb-true}
+use borrow.Author.Tests.{eq-eqb, le-leb, lt-leb}
 use Rattle.wire.specs.Lists.{all, isZero}
 use Rattle.wire.proofs.ListsLaws.{getD-any}
 use Rattle.state.specs.State.{unset, songAt}
-use Rattle.state.specs.Accepted.{selectedLegal, playingSet, songOk, songsOk}
+use Rattle.state.specs.Accepted.{playingSet, songOk, songsOk}
 use Rattle.state.specs.declared.Song.{Song}
 use Rattle.state.proofs.AcceptedLaws.{selected-tested}
 use Rattle.state.proofs.songs_ok.Statement.{statement}
@@ -22,31 +22,19 @@ sixteen : (c : tie.Start) → length (c .args .songs .table) ≡ 16
 sixteen c = sym (length-map (c .args .songs .table) _) ∙ c .good .0 .1 .1 .0 .1 .0 .1
 
 returns : tie.Need-returns
-unfolding songsOk selectedLegal
+unfolding songsOk
 returns c =
-    simp (eq-eqb _ _ (sixteen (c .before .before .before)), sym (c .before .is-legal .ensures) ∙ not-true (c .before .is-legal .result) (c .if1 .taken))
+    let start = c .before .before in
+    simp (eq-eqb _ _ (sixteen start), selected-tested (start .args .songs), lt-leb _ _ (c .if1 .taken))
 
 -- what the first test tells
 module _ (c : tie.Else1) where
   abbrev asked : tie.Start
-  asked = c .before .before .before
-
-  legal : selectedLegal (asked .args .songs) ≡ true
-  unfolding selectedLegal
-  legal = sym (c .before .is-legal .ensures) ∙ not-false (c .before .is-legal .result) (c .if1 .left)
-
-  in-table : asked .args .songs .selected < 16
-  unfolding selectedLegal
-  in-table =
-      let h : asked .args .songs .selected ≤ 15 = leb-true _ _ (sym (selected-tested (asked .args .songs)) ∙ legal) in
-      omega arith
+  asked = c .before .before
 
   left-over : songsOk (asked .args .songs) ≡ (playingSet (asked .args .songs) && all songOk (asked .args .songs .table))
   unfolding songsOk
-  left-over = simp (eq-eqb _ _ (sixteen asked), legal)
-
-element-copy-out-if3 : tie.Need-element-copy-out-if3
-element-copy-out-if3 c = in-table (c .before)
+  left-over = simp (eq-eqb _ _ (sixteen asked), selected-tested (asked .args .songs), le-leb _ _ (c .if1 .left))
 
 -- whether the selected song is set, as it is read
 set-read : (c : tie.Else1)
@@ -54,7 +42,7 @@ set-read : (c : tie.Else1)
     isZero (songAt x (x .selected) .len) ≡ isZero (getD (x .table) (x .selected) (record { len = 0; notes = [] }) .len)
 set-read c =
     let x = asked c .args .songs in
-    let h : x .selected < length (x .table) = omega (arith, in-table c, sixteen (asked c)) in
+    let h : x .selected < length (x .table) = omega (arith, sixteen (asked c)) in
     ap (λ (song : Song). isZero (song .len)) (getD-any (x .table) (x .selected) unset (record { len = 0; notes = [] }) h)
 
 returns-2 : tie.Need-returns-2
@@ -74,11 +62,10 @@ pub songs-ok-spec : {M : Type 1} → statement M
 songs-ok-spec =
     tie.close
     (tie.spec
-    (λ c κs. search needs)
     returns
     (λ c. search needs)
     (λ c. search needs)
-    element-copy-out-if3
+    (λ c. search needs)
     returns-2
     (λ c κs. search needs)
     returns-3)

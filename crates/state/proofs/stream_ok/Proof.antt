@@ -1,27 +1,21 @@
--- `state::stream_ok` meets its contract: the payload that is judged has the ids in its first places.
+-- `state::stream_ok` meets its contract: what is tested of the ids in use is a Stream's rule.
 -- Assumes nothing.
 use mathlib.Core.Path.{_≡_, sym, ap, _∙_}
-use mathlib.Core.Bool.{Bool, true}
-use mathlib.Core.List.{List}
-use Prim.Native.Nat.{ℕ, _-_, _<_, _≤_}
+use mathlib.Core.Bool.{true, _&&_, and-assoc}
+use Prim.Native.Nat.{ℕ, _<_, _≤_}
+use native.Mathlib.Nat.{sub-zero}
 use native.Mathlib.Omega.{arith}
-use lib.ListN.{length, getD, take, drop, replicate}
-use lib.Seq.{take-length, take-append-le}
+use lib.Dec.{leb}
+use lib.ListN.{length, getD, take}
 use mir.Syntax.{w8}
 use mir.Val.{Fits}
 use borrow.Author.Needs.{needs}
-use Rattle.wire.specs.Lists.{padded}
-use Rattle.wire.specs.Buffer.{Put}
+use borrow.Author.Tests.{le-leb, lt-leb}
 use Rattle.wire.proofs.ListsLaws.{array-true}
-use Rattle.wire.proofs.BufferLaws.{overwrite-zeros, put-start}
-use Rattle.command.specs.Layout.{storedCount}
-use Rattle.command.specs.CommandTable.{legalOf}
-use Rattle.command.specs.Commands.{message}
-use Rattle.command.specs.declared.Command.the-variants as cmd
-use Rattle.command.proofs.LayoutLaws.{stored-le}
-use Rattle.command.proofs.CommandTableLaws.{unused-free}
-use Rattle.state.specs.Accepted.{streamLegal, idsZero, streamTyped, streamOk}
-use Rattle.state.specs.declared.Stream.{Stream}
+use Rattle.packet.specs.Answers.{streamableOf}
+use Rattle.command.proofs.CommandTableLaws.{first-decides, second-of-three, third-of-three}
+use Rattle.state.specs.Accepted.{idsZero, streamTyped, streamOk}
+use Rattle.state.proofs.AcceptedLaws.{list-tested}
 use Rattle.state.proofs.stream_ok.Statement.{statement}
 use Rattle.state.proofs.stream_ok.Tie as tie
 
@@ -35,40 +29,45 @@ typed c =
     let each : (i : ℕ) → getD l i 0 < 256 = λ i. (let h : Fits w8 (getD l i 0) = search needs in omega arith) in
     array-true 16 l (sixteen c) each
 
-put-part-requires : tie.Need-put-part-requires
-put-part-requires c κs =
-    let h : 16 ≤ length (c .before .before .before .args .stream .ids) = omega (arith, sixteen (c .before .before .before)) in
-    (h, omega arith)
+-- what the code tests
+tested : (c : tie.Start)
+    → let x = c .args .stream in
+    (leb (x .count) 16 && (streamableOf (take (x .count) (x .ids)) && idsZero x)) ≡ streamOk x
+unfolding streamOk
+tested c =
+    let x = c .args .stream in
+    sym (and-assoc (leb (x .count) 16) (streamableOf (take (x .count) (x .ids))) (idsZero x)) ∙ sym (simp (typed c, list-tested x))
 
--- the ids in use are those of the payload
-judged : (x : Stream) {p : List ℕ} {r : ℕ} {b : Bool} → length (x .ids) ≡ 16 → Put (take 16 (drop 0 (x .ids))) 0 (replicate 32 0) p r
-    → b ≡ legalOf (message (cmd.Stream (x .count)) p) → b ≡ streamLegal x
-unfolding streamLegal
-judged x {p} l put f =
-    let ids = x .ids in
-    let n = storedCount (x .count) in
-    let whole : take 16 ids ≡ ids = ap (λ (k : ℕ). take k ids) (sym l) ∙ take-length ids in
-    let e : p ≡ padded 32 ids = put-start put ∙ overwrite-zeros (take 16 ids) 32 ∙ ap (padded 32) whole in
-    let h : n ≤ length ids = omega (arith, stored-le (x .count)) in
-    f ∙ unused-free (cmd.Stream (x .count)) p ids (ap (take n) e ∙ take-append-le n ids (replicate (32 - length ids) 0) h)
+part-streamable-end : tie.Need-part-streamable-end
+part-streamable-end c =
+    let start = c .before .before .before in
+    let h : start .args .stream .count ≤ length (start .args .stream .ids) = omega (arith, sixteen start, c .before .if1 .taken) in
+    h
 
--- what the first test tells
-module _ (c : tie.After-legal) where
-  abbrev asked : tie.Start
-  asked = c .before .before .before .before .before .before
-
-  legal : c .legal .result ≡ streamLegal (asked .args .stream)
-  legal = judged (asked .args .stream) (sixteen asked) (c .before .before .put-part .ensures) (c .legal .ensures)
+-- what is lent is the ids in use
+in-use : (c : tie.After-streamable)
+    → let x = c .before .before .before .before .before .args .stream in
+    c .streamable .result ≡ streamableOf (take (x .count) (x .ids))
+in-use c =
+    let x = c .before .before .before .before .before .args .stream in
+    c .streamable .ensures ∙ ap (λ (n : ℕ). streamableOf (take n (x .ids))) (sub-zero (x .count))
 
 returns : tie.Need-returns
-unfolding streamOk idsZero
+unfolding idsZero
 returns c =
-    let first = c .before .before .before in
-    simp (typed (asked first), sym (legal first) ∙ c .before .before .if1 .taken, c .clear-from .ensures)
+    let ruled = c .before .before .before in
+    let counted = ruled .before .before .before in
+    c .clear-from .ensures
+    ∙ third-of-three _ (le-leb _ _ (counted .if1 .taken)) (sym (in-use ruled) ∙ c .before .before .if2 .taken) ∙ tested (counted .before .before)
 
 returns-2 : tie.Need-returns-2
-unfolding streamOk
-returns-2 c = c .if1 .left ∙ simp (typed (asked (c .before)), sym (legal (c .before)) ∙ c .if1 .left)
+returns-2 c =
+    let ruled = c .before in
+    let counted = ruled .before .before .before in
+    in-use ruled ∙ second-of-three _ (le-leb _ _ (counted .if1 .taken)) (sym (in-use ruled) ∙ c .if2 .left) ∙ tested (counted .before .before)
+
+returns-3 : tie.Need-returns-3
+returns-3 c = first-decides _ (lt-leb _ _ (c .if1 .left)) ∙ tested (c .before .before)
 
 pub stream-ok-spec : {M : Type 1} → statement M
 stream-ok-spec =
@@ -76,10 +75,11 @@ stream-ok-spec =
     (tie.spec
     (λ c. search needs)
     (λ c. search needs)
-    put-part-requires
-    (λ c κs. search needs)
     (λ c. search needs)
+    part-streamable-end
+    (λ c κs. search needs)
     (λ c. search needs)
     (λ c κs. search needs)
     returns
-    returns-2)
+    returns-2
+    returns-3)
