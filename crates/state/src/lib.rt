@@ -14,7 +14,10 @@ mod compare;
 
 ghost use mathlib.Core.Path.{_≡_};
 ghost use mathlib.Core.Bool.{_&&_};
-ghost use Rattle.wire.specs.Lists.{all};
+ghost use mathlib.Core.List.{_++_};
+ghost use Prim.Native.Nat.{_≤_};
+ghost use lib.ListN.{drop, replicate};
+ghost use Rattle.wire.specs.Lists.{allZero};
 ghost use Rattle.frame.specs.Reach.{reachableOf};
 ghost use Rattle.state.specs.State.{powerOn, motorsOff};
 ghost use Rattle.state.specs.Accepted.{orderNamed, offUnlessDriven, wheelsLegal, dutiesLegal, motorsOk, keptOk, songOk, songsOk, streamOk, acceptedOf};
@@ -173,33 +176,45 @@ fn kept_ok(kept: Kept) -> bool
     kept.outputs <= command::LAST_OUTPUTS && kept.baud <= command::LAST_BAUD
 }
 
-// Of a song that is not set all places are looked at, as many as the type says, which the compiler does at once.
-fn song_ok(song: Song) -> bool
+// 0 in 32 places and 255 in 32 more: read from place 32 - n on, it hides the first n of 32 places.
+fn mask() -> [u8; 64]
+    ensures { λ r. ⌜ r ≡ replicate 32 0 ++ replicate 32 255 ⌝ }
+{
+    let mut mask = [0u8; 64];
+    let mut i = 32;
+    while i < 64 {
+        mask[i] = 255;
+        i += 1;
+    }
+    mask
+}
+
+// Whether the places from `used` on are 0. All 32 are looked at, as many as the type says, which the compiler does at once: the mask hides those in use.
+fn clear_past(notes: [u8; 32], used: usize, mask: &[u8; 64]) -> bool
+    requires { ⌜ used ≤ 32 ⌝ }
+    requires { ⌜ now mask ≡ replicate 32 0 ++ replicate 32 255 ⌝ }
+    ensures { λ r. ⌜ r ≡ allZero (drop used notes) ⌝ }
+{
+    let start = 32 - used;
+    let mut left = 0u8;
+    let mut i = 0;
+    while i < 32 {
+        left = left | (notes[i] & mask[start + i]);
+        i += 1;
+    }
+    left == 0
+}
+
+fn song_ok(song: Song, mask: &[u8; 64]) -> bool
+    requires { ⌜ now mask ≡ replicate 32 0 ++ replicate 32 255 ⌝ }
     ensures { λ r. ⌜ r ≡ songOk song ⌝ }
 {
     let len = song.len;
     let notes = song.notes;
-    if len == 0 {
-        return wire::clear_from(&notes, 0);
-    }
-    len <= frame::LEGAL_COUNT && wire::clear_from(&notes, 2 * (len as usize))
+    len <= frame::LEGAL_COUNT && clear_past(notes, 2 * (len as usize), mask)
 }
 
-// Each of the 16 songs.
-fn table_ok(table: [Song; 16]) -> bool
-    ensures { λ r. ⌜ r ≡ all songOk table ⌝ }
-{
-    let mut i = 0;
-    while i < 16 {
-        let song = table[i];
-        if !song_ok(song) {
-            return false;
-        }
-        i += 1;
-    }
-    true
-}
-
+// The selected song and each of the 16 are tested in one function, since each that is handed the table copies it.
 fn songs_ok(songs: Songs) -> bool
     ensures { λ r. ⌜ r ≡ songsOk songs ⌝ }
 {
@@ -211,7 +226,16 @@ fn songs_ok(songs: Songs) -> bool
     if songs.playing && table[selected as usize].len == 0 {
         return false;
     }
-    table_ok(table)
+    let mask = mask();
+    let mut i = 0;
+    while i < 16 {
+        let song = table[i];
+        if !song_ok(song, &mask) {
+            return false;
+        }
+        i += 1;
+    }
+    true
 }
 
 // The ids in use are held to 148's rule, sizes included.

@@ -6,6 +6,7 @@ use mathlib.Core.Logic.{_⊎_, inl, inr, ⊎-elim}
 use Prim.Native.Nat.{ℕ, zero, suc, _-_, _≤_, _<_, zero-le, suc-le-suc}
 use native.Mathlib.Nat.{eq-or-lt-of-le}
 use native.Mathlib.Omega.{arith}
+use lib.Bits.{bitOr, or-zero-l, and-le-r, or-add-and}
 use lib.Dec.{T, leb, eqb, leb·zero, leb·suc-suc}
 use mir.Facts.{and-yes}
 use borrow.Author.Tests.{le-leb, lt-leb, leb-true, leb-false, eqb-true, eqb-false, eq-eqb, ne-eqb}
@@ -100,6 +101,13 @@ not-one n h w = ⊎-elim (λ (e : 1 ≡ n). absurd (eqb-false n 1 w (sym e))) (�
 pub leb-pred : (m k : ℕ) → leb (m - 1) k ≡ leb m (suc k)
 leb-pred zero k = leb·zero k ∙ sym (leb·zero (suc k))
 leb-pred (suc m) k = let e : suc m - 1 ≡ m = omega arith in ap (λ (n : ℕ). leb n k) e ∙ sym (leb·suc-suc m k)
+
+-- bits put together are 0 where both are
+pub or-zero : (a b : ℕ) → eqb (bitOr a b) 0 ≡ (eqb a 0 && eqb b 0)
+or-zero zero b = ap (λ (n : ℕ). eqb n 0) (or-zero-l b)
+or-zero (suc a) b =
+    let h : 0 < bitOr (suc a) b = omega (arith, or-add-and (suc a) b, and-le-r (suc a) b) in
+    pos-eqb (bitOr (suc a) b) h ∙ sym (simp (pos-eqb (suc a) (omega arith)))
 
 -- two tests of equality that say the same
 pub eqb-iff : (a b c d : ℕ) → (a ≡ b → c ≡ d) → (c ≡ d → a ≡ b) → eqb a b ≡ eqb c d

@@ -1,19 +1,20 @@
 -- Laws of lists, and of the tests over them.
 -- Assumes nothing.
 use mathlib.Core.Path.{_≡_, refl, sym, ap, ap₂, subst, _∙_}
-use mathlib.Core.Bool.{Bool, true, false, _&&_, and-false}
+use mathlib.Core.Bool.{Bool, true, false, _&&_, and-false, and-assoc}
 use mathlib.Core.List.{List, [], _∷_, _++_, append-assoc, map, flatMap}
 use mathlib.Core.Logic.{⊎-elim}
 use Prim.Native.Nat.{ℕ, zero, suc, _+_, _-_, _≤_, _<_, zero-le}
 use native.Mathlib.Nat.{eq-or-lt-of-le, zero-add}
 use native.Mathlib.Numerals.{add-one}
 use native.Mathlib.Omega.{arith}
+use lib.Bits.{bitOr}
 use lib.Dec.{T, leb, leb→le, eqb, eqb→eq, ltb→lt}
 use lib.ListN.{length, getD, set, take, drop, replicate, length-append, length-drop, length-set, take-append-drop}
 use lib.Seq.{drop-cons, set-append-seam, getD-drop}
 use mir.Facts.{and-yes, or-yes, yes-and, yes-ltb, yes-eqb}
 use borrow.Author.Tests.{lt-ltb, eq-eqb}
-use Rattle.wire.proofs.BoolLaws.{and-swap}
+use Rattle.wire.proofs.BoolLaws.{and-swap, or-zero}
 use Rattle.wire.specs.Lists.{all, allFrom, span, sum, among, snoc, padded, sameList, isZero, isByte, allZero, allBytes, byteArray}
 
 -- ---- lists from an index on
@@ -228,6 +229,13 @@ zeros-are [] t = refl
 zeros-are (x ∷ xs) t =
     let s = and-yes (isZero x) (allZero xs) t in
     ap (λ (n : ℕ). n ∷ xs) (eqb→eq x 0 (s .0)) ∙ ap (λ (l : List ℕ). 0 ∷ l) (zeros-are xs (s .1))
+
+-- one turn of a loop that puts the bits of the places from i on together, of which those before gave b
+pub zeros-next : (l : List ℕ) (i b : ℕ) → i < length l
+    → (isZero b && allZero (drop i l)) ≡ (isZero (bitOr b (getD l i 0)) && allZero (drop (i + 1) l))
+zeros-next l i b h =
+    ap (λ (t : Bool). isZero b && t) (all-next isZero l i h) ∙ sym (and-assoc (isZero b) (isZero (getD l i 0)) (allZero (drop (i + 1) l)))
+    ∙ ap (λ (t : Bool). t && allZero (drop (i + 1) l)) (sym (or-zero b (getD l i 0)))
 
 pub zero-at : (l : List ℕ) → T (allZero l) → (i : ℕ) → getD l i 0 ≡ 0
 zero-at [] t i = refl
