@@ -16,13 +16,50 @@ const ROOM: u8 = 130;
 
 const STATE: u8 = 131;
 
+pub const RUN: u8 = 129;
+
+// What settings leave for the calls after them: the sensor image, and the length of the buffer that is lent.
+pub struct Setup {
+    pub image: [u8; 40],
+    pub room: usize,
+}
+
+// Before the first of them.
+pub fn first_setup() -> Setup {
+    Setup {
+        image: [0u8; 40],
+        room: 832,
+    }
+}
+
+// What a call gives, but for the record.
+pub struct Given {
+    pub number: u8,
+    pub length: usize,
+    pub read: usize,
+}
+
+pub fn gave(number: u8, length: usize, read: usize) -> Given {
+    Given {
+        number,
+        length,
+        read,
+    }
+}
+
+// The first bytes of the buffer, as many as the room says.
+pub fn lent(buffer: &mut [u8], room: usize) -> &mut [u8] {
+    let n = within(room, buffer);
+    &mut buffer[0..n]
+}
+
 pub fn is_setting(kind: u8) -> bool {
     kind == IMAGE || (kind == ROOM || kind == STATE)
 }
 
 // What a setting sets; another kind leaves it as it is.
 
-pub fn set_image(image: [u8; 40], kind: u8, body: &[u8]) -> [u8; 40] {
+fn set_image(image: [u8; 40], kind: u8, body: &[u8]) -> [u8; 40] {
     if kind != IMAGE {
         return image;
     }
@@ -31,8 +68,17 @@ pub fn set_image(image: [u8; 40], kind: u8, body: &[u8]) -> [u8; 40] {
     next
 }
 
-pub fn set_room(room: usize, kind: u8, body: &[u8]) -> usize {
+fn set_room(room: usize, kind: u8, body: &[u8]) -> usize {
     if kind == ROOM { word_at(body, 0) } else { room }
+}
+
+pub fn set(setup: Setup, kind: u8, body: &[u8]) -> Setup {
+    let before = setup.image;
+    let image = set_image(before, kind, body);
+    Setup {
+        image,
+        room: set_room(setup.room, kind, body),
+    }
 }
 
 pub fn set_state(state: State, kind: u8, body: &[u8]) -> State {
@@ -124,27 +170,14 @@ fn write(state: State, body: &[u8], buffer: &mut [u8]) -> Ran {
     }
 }
 
-// A call; the first bytes of the buffer, as many as the room says, are lent with it.
-pub fn perform(
-    state: State,
-    kind: u8,
-    body: &[u8],
-    image: &[u8; 40],
-    room: usize,
-    buffer: &mut [u8],
-) -> Ran {
-    let n = within(room, buffer);
-    let lent = &mut buffer[0..n];
+// A call other than a run.
+pub fn perform(state: State, kind: u8, body: &[u8], image: &[u8; 40], buffer: &mut [u8]) -> Ran {
     match kind {
-        1 => byte(state, byte_at(body, 0), image, lent),
+        1 => byte(state, byte_at(body, 0), image, buffer),
         2 => report(state, byte_at(body, 0)),
-        3 => having_read(board::tick(state, image, lent), 0),
+        3 => having_read(board::tick(state, image, buffer), 0),
         4 => having_read(board::song_end(state), 0),
-        129 => {
-            let from = within(2, body);
-            board::run(state, &body[from..], image, lent)
-        }
-        _ => write(state, body, lent),
+        _ => write(state, body, buffer),
     }
 }
 

@@ -1,5 +1,5 @@
 // A file of calls, record by record. The block is filled up again when less is left of it than the longest record has.
-ghost use Prim.Native.Nat.{_≤_};
+ghost use Prim.Native.Nat.{_≤_, _<_};
 ghost use lib.ListN.{length};
 use crate::layout::byte_at;
 use crate::layout::word_at;
@@ -39,12 +39,14 @@ const END: u8 = 7;
 
 const FAILED: u8 = 8;
 
-// The bytes of the block that are not used yet, and the offset of the first of them in the file. `over` is WHOLE while there may be more.
+// The bytes of the block that are not used yet, and the offset of the first of them in the file. `over` is WHOLE while there may be more. A proved loop has to
+// end, and nothing says that the input does: the turns count down from a number that no file uses up.
 pub struct Window {
     pub from: usize,
     pub end: usize,
     pub offset: usize,
     pub over: u8,
+    pub turns: u64,
 }
 
 // A record: its kind, and where its body lies in the block.
@@ -53,15 +55,6 @@ pub struct Record {
     pub start: usize,
     pub end: usize,
     pub fault: u8,
-}
-
-pub fn open() -> Window {
-    Window {
-        from: 0,
-        end: 0,
-        offset: 0,
-        over: WHOLE,
-    }
 }
 
 // How many bytes are not used yet.
@@ -100,11 +93,12 @@ fn read_more(window: Window, block: &mut [u8]) -> Window {
         end: plus(size, more),
         offset: window.offset,
         over: over_by(got),
+        turns: window.turns,
     }
 }
 
 // Each reading brings a byte, or the file is over.
-pub fn filled(window: Window, block: &mut [u8]) -> Window {
+fn filled(window: Window, block: &mut [u8]) -> Window {
     let mut now = window;
     let mut turns = LONGEST;
     while turns > 0 {
@@ -115,6 +109,18 @@ pub fn filled(window: Window, block: &mut [u8]) -> Window {
         turns -= 1;
     }
     now
+}
+
+// The start of the file.
+pub fn open(block: &mut [u8]) -> Window {
+    let window = Window {
+        from: 0,
+        end: 0,
+        offset: 0,
+        over: WHOLE,
+        turns: u64::MAX,
+    };
+    filled(window, block)
 }
 
 fn is_known(kind: u8) -> bool {
@@ -196,6 +202,20 @@ fn record_at(bytes: &[u8], from: usize) -> Record
     }
 }
 
+// Its body; of a run, the bytes of its slice.
+pub fn body(record: Record, block: &[u8]) -> &[u8] {
+    let end = within(record.end, block);
+    let start = if record.kind == RUN {
+        plus(record.start, 2)
+    } else {
+        record.start
+    };
+    if start > end {
+        return &block[0..0];
+    }
+    &block[start..end]
+}
+
 // The next record of the file.
 pub fn next(window: Window, block: &[u8]) -> Record
     ensures { λ r. ⌜ (r .start ≤ r .end) × (r .end ≤ length (now (block .entry))) ⌝ }
@@ -207,13 +227,20 @@ pub fn next(window: Window, block: &[u8]) -> Record
     record_at(&block[0..end], window.from)
 }
 
-pub fn past(window: Window, end: usize) -> Window {
+// The window past a record, with one turn less.
+pub fn past(window: Window, end: usize, block: &mut [u8]) -> Window
+    requires { ⌜ 0 < window .turns ⌝ }
+    ensures { λ r. ⌜ r .turns < window .turns ⌝ }
+{
     let mut next = window;
     next.from = end;
     if window.from < end {
         next.offset = plus(window.offset, end - window.from);
     }
-    next
+    let turns = window.turns - 1;
+    let mut read = filled(next, block);
+    read.turns = turns;
+    read
 }
 
 // What is wrong is the last line; a whole file has none.

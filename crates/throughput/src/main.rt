@@ -6,6 +6,7 @@ mod input;
 mod layout;
 mod tally;
 
+use calls::Given;
 use state::State;
 use tally::Tally;
 use terminal::within;
@@ -38,17 +39,17 @@ fn style_asked() -> u8 {
 fn told(
     before: Tally,
     style: u8,
-    number: u8,
-    length: usize,
-    read: usize,
+    given: Given,
+    numbers: &mut [u64; 10],
     buffer: &mut [u8],
 ) -> Tally {
-    let n = within(length, buffer);
-    let mut tally = tally::counted(before, number, length);
+    let n = within(given.length, buffer);
+    tally::count(numbers, given.number);
+    let mut tally = tally::counted(before, given.length);
     if style == TRACE {
-        tally::say_call(number, read, &buffer[0..n]);
+        tally::say_call(given.number, given.read, &buffer[0..n]);
     } else {
-        tally.digest = tally::of_answer(tally.digest, number, read, &buffer[0..n]);
+        tally.digest = tally::of_answer(tally.digest, given.number, given.read, &buffer[0..n]);
     }
     calls::clear(buffer, n);
     tally
@@ -66,55 +67,56 @@ fn with_record(before: Tally, style: u8, state: State) -> Tally {
     tally
 }
 
-fn finish(tally: Tally, style: u8, offset: usize, fault: u8) {
+fn finish(tally: Tally, numbers: [u64; 10], style: u8, offset: usize, fault: u8) {
     if style != TRACE {
-        tally::say_tally(tally);
+        tally::say_tally(tally, numbers);
     }
     input::say_fault(offset, fault);
 }
 
-// The whole file. The record stands in an array of two, by turns the one before a call and the one after it, so that the compiler moves it as a whole. A proved
-// loop has to end, and nothing says that the input does: the turns count down from a number that no run uses up.
-fn perform(first: State, style: u8) {
-    let mut space = io::large_buffer();
-    let block: &mut [u8] = &mut space;
-    let mut lent = [0u8; 1024];
-    let buffer: &mut [u8] = &mut lent;
+// The whole file. The record stands in an array of two, by turns the one before a call and the one after it, so that the compiler moves it as a whole; and runs
+// are called here, so that what they give is moved once.
+fn perform(first: State, style: u8, block: &mut [u8]) {
+    let mut space = [0u8; 1024];
+    let buffer: &mut [u8] = &mut space;
     let mut states = [first; 2];
-    let mut image = [0u8; 40];
-    let mut room = 832;
+    let mut setup = calls::first_setup();
+    let mut numbers = [0u64; 10];
     let mut tally = tally::nothing();
-    let mut window = input::open();
-    let mut turns = u64::MAX;
-    while turns > 0 {
-        window = input::filled(window, block);
+    let mut window = input::open(block);
+    while window.turns > 0 {
         let record = input::next(window, block);
         if record.fault != input::WHOLE {
-            finish(tally, style, window.offset, record.fault);
-            return;
+            return finish(tally, numbers, style, window.offset, record.fault);
         }
-        let start = record.start;
-        let end = record.end;
-        let body = &block[start..end];
-        let at = (turns % 2) as usize;
+        let body = input::body(record, block);
+        let at = (window.turns % 2) as usize;
         if calls::is_setting(record.kind) {
             states[1 - at] = calls::set_state(states[at], record.kind, body);
-            image = calls::set_image(image, record.kind, body);
-            room = calls::set_room(room, record.kind, body);
+            setup = calls::set(setup, record.kind, body);
         } else {
-            let ran = calls::perform(states[at], record.kind, body, &image, room, buffer);
-            let after = ran.state;
-            states[1 - at] = after;
-            tally = told(tally, style, ran.number, ran.length, ran.read, buffer);
+            let lent = calls::lent(buffer, setup.room);
+            let given = if record.kind == calls::RUN {
+                let ran = board::run(states[at], body, &setup.image, lent);
+                let after = ran.state;
+                states[1 - at] = after;
+                calls::gave(ran.number, ran.length, ran.read)
+            } else {
+                let ran = calls::perform(states[at], record.kind, body, &setup.image, lent);
+                let after = ran.state;
+                states[1 - at] = after;
+                calls::gave(ran.number, ran.length, ran.read)
+            };
+            tally = told(tally, style, given, &mut numbers, buffer);
             if style != BARE {
-                tally = with_record(tally, style, after);
+                tally = with_record(tally, style, states[1 - at]);
             }
         }
-        window = input::past(window, end);
-        turns -= 1;
+        window = input::past(window, record.end, block);
     }
 }
 
 fn main() {
-    perform(state::power_on(), style_asked());
+    let mut space = io::large_buffer();
+    perform(state::power_on(), style_asked(), &mut space);
 }

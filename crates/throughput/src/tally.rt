@@ -9,10 +9,9 @@ use terminal::say_number;
 use terminal::wide;
 use terminal::within;
 
-// How many calls, how often each number was given, the bytes answered, and the digest.
+// How many calls, the bytes answered, and the digest.
 pub struct Tally {
     pub calls: u64,
-    pub numbers: [u64; 10],
     pub bytes: u64,
     pub digest: u64,
 }
@@ -20,23 +19,24 @@ pub struct Tally {
 pub fn nothing() -> Tally {
     Tally {
         calls: 0,
-        numbers: [0u64; 10],
         bytes: 0,
         digest: 1,
     }
 }
 
-pub fn counted(before: Tally, number: u8, length: usize) -> Tally {
+pub fn counted(before: Tally, length: usize) -> Tally {
     let mut tally = before;
     tally.calls = wrapping_add_u64(tally.calls, 1);
     tally.bytes = wrapping_add_u64(tally.bytes, length as u64);
+    tally
+}
+
+// How often each number was given; this one once more.
+pub fn count(numbers: &mut [u64; 10], number: u8) {
     let i = wide(number);
     if i < 10 {
-        let mut numbers = tally.numbers;
         numbers[i] = wrapping_add_u64(numbers[i], 1);
-        tally.numbers = numbers;
     }
-    tally
 }
 
 // One byte more in the digest; 4294967291 is the greatest prime below 2 to the 32nd.
@@ -129,8 +129,7 @@ fn say_numbers(numbers: [u64; 10]) {
     }
 }
 
-pub fn say_tally(tally: Tally) {
-    let numbers = tally.numbers;
+pub fn say_tally(tally: Tally, numbers: [u64; 10]) {
     say_count(b"calls ", tally.calls);
     say_numbers(numbers);
     say_count(b" bytes ", tally.bytes);

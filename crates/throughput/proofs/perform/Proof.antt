@@ -1,14 +1,16 @@
 -- `throughput::perform` is safe and ends: the turns that are left.
 -- Assumes nothing.
+use mathlib.Core.Path.{_≡_}
+use lib.ListN.{length}
 use borrow.Author.Needs.{needs}
 use Rattle.throughput.proofs.perform.Statement.{statement}
 use Rattle.throughput.proofs.perform.Tie as tie
 
 abbrev Inv-loop : tie.InvT-loop
-Inv-loop style block₀ buffer₀ states₀ image₀ room₀ tally₀ window₀ turns₀ block buffer states image room tally window turns = Unit {0}
+Inv-loop style block₀ buffer₀ states₀ setup₀ numbers₀ tally₀ window₀ block buffer states setup numbers tally window = length block ≡ length block₀
 
 abbrev μ-loop : tie.MeasureT-loop
-μ-loop style block₀ buffer₀ states₀ image₀ room₀ tally₀ window₀ turns₀ block buffer states image room tally window turns = turns
+μ-loop style block₀ buffer₀ states₀ setup₀ numbers₀ tally₀ window₀ block buffer states setup numbers tally window = window .turns
 
 pub perform-spec : {M : Type 1} → statement M
 perform-spec =
@@ -16,24 +18,13 @@ perform-spec =
     (tie.spec
     Inv-loop
     μ-loop
-    (λ c κs. search needs)
-    (λ c. search needs)
-    (λ c. search needs)
-    (λ c κs. search needs)
-    (λ c κs. search needs)
     (λ c. search needs)
     (λ c κs. search needs)
     (λ c κs. search needs)
     (λ c κs. search needs)
     (λ c. search needs)
-    (λ c. search needs)
-    (λ c. search needs)
-    (λ c. search needs)
     (λ c κs. search needs)
-    (λ c. search needs)
-    (λ c. search needs)
     (λ c κs. search needs)
-    (λ c. search needs)
     (λ c. search needs)
     (λ c. search needs)
     (λ c κs. search needs)
@@ -45,6 +36,25 @@ perform-spec =
     (λ c. search needs)
     (λ c. search needs)
     (λ c κs. search needs)
+    (λ c κs. search needs)
+    (λ c. search needs)
+    (λ c. search needs)
+    (λ c κs. search needs)
+    (λ c. search needs)
+    (λ c. search needs)
+    (λ c. search needs)
+    (λ c κs. search needs)
+    (λ c. search needs)
+    (λ c. search needs)
+    (λ c κs. search needs)
+    (λ c. search needs)
+    (λ c. search needs)
+    (λ c. search needs)
+    (λ c κs. search needs)
+    (λ c κs. search needs)
+    (λ c. search needs)
+    (λ c. search needs)
+    (λ c. search needs)
     (λ c κs. search needs)
     (λ c κs. search needs)
     (λ c. search needs)
