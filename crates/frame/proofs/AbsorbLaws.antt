@@ -15,13 +15,13 @@ use Rattle.wire.specs.Lists.{snoc}
 use Rattle.wire.specs.Buffer.{placed, Put}
 use Rattle.wire.proofs.BoolLaws.{cond-true, cond-false, pos-eqb, eqb-iff}
 use Rattle.wire.proofs.BufferLaws.{placed-one, placed-append}
-use Rattle.frame.specs.Push.{headerOf, storesBody, pushOf, nextOf, afterOf}
+use Rattle.frame.specs.Push.{lengthOf, headerOf, storesBody, pushOf, nextOf, afterOf}
 use Rattle.frame.specs.Absorb.{pushAll, absorbs, absorbOf, Waits, Steps}
 use Rattle.frame.specs.Reach.{reachableOf}
 use Rattle.frame.specs.declared.Partial.{Partial}
 use Rattle.frame.specs.declared.Pushed.{Pushed}
 use Rattle.frame.specs.declared.Absorbed.{Absorbed}
-use Rattle.frame.proofs.PushLaws.{stored-fits, set-agree, header-agree, stores-agree, partial-eq, grown, push-stored, push-skipped, push-body, next-more, next-remaining}
+use Rattle.frame.proofs.PushLaws.{header-le, stored-fits, set-agree, header-agree, stores-agree, partial-eq, grown, push-stored, push-skipped, push-body, next-more, next-remaining}
 use Rattle.frame.proofs.ReachLaws.{Stage, in-header, storing, skipping, places-of, stage-of}
 
 -- ---- how many are taken
@@ -128,6 +128,15 @@ push-all-skipped p (b ∷ (c ∷ bs)) a h k =
     ap (λ (q : Partial). pushAll q (c ∷ bs)) e
     ∙ push-all-skipped g (c ∷ bs) (omega arith) (omega arith) k
     ∙ left-more p g (length (c ∷ bs)) (p .bytes) (p .bytes) (p .count) (p .count) (omega arith) refl refl refl
+
+-- a header has room for one more
+pub short : (p : Partial) → T (reachableOf p) → p .remaining ≡ 0 → p .count < 35
+short p t z = at (stage-of p t)
+  where
+    at : Stage p → p .count < 35
+    at (in-header a b) = let h = header-le (lengthOf (p .bytes)) in omega arith
+    at (storing a b r s e) = absurd (omega arith)
+    at (skipping b r s e) = absurd (omega arith)
 
 -- a body that is stored has room for the bytes that remain
 pub room : (p : Partial) → T (reachableOf p) → 0 < p .remaining → storesBody (p .bytes) ≡ true

@@ -175,6 +175,40 @@ pub fn push(p: Partial, b: u8) -> Pushed
     }
 }
 
+// A byte while the length is not known, which has a place. It is pushed, and written out here so that the frame is not moved from one function to the next.
+fn absorb_one(p: Partial, b: u8) -> Absorbed
+    requires { ⌜ p .remaining ≡ 0 ⌝ }
+    requires { ⌜ p .count < 35 ⌝ }
+    ensures { λ r. ⌜ r ≡ record { partial = pushOf p b .partial; complete = pushOf p b .complete; count = 1 } ⌝ }
+{
+    let mut bytes = p.bytes;
+    let at = p.count;
+    bytes[at] = b;
+    let count = at + 1;
+    let length = data_length(bytes[0]);
+    if count < header_size(length) {
+        return Absorbed {
+            partial: Partial {
+                bytes,
+                count,
+                remaining: 0,
+            },
+            complete: false,
+            count: 1,
+        };
+    }
+    let remaining = body_size(length, bytes);
+    Absorbed {
+        partial: Partial {
+            bytes,
+            count,
+            remaining,
+        },
+        complete: remaining == 0,
+        count: 1,
+    }
+}
+
 // As many bytes at once as surely belong to one frame: one while its length is not known, and then those that remain. The crates above see to it that the
 // frame is reachable and that there is a byte: it is no call of the board.
 pub fn absorb(p: Partial, bytes: &[u8]) -> Absorbed
@@ -184,13 +218,7 @@ pub fn absorb(p: Partial, bytes: &[u8]) -> Absorbed
 {
     let remaining = p.remaining;
     if remaining == 0 {
-        let pushed = measure(append(p, bytes[0]));
-        let partial = pushed.partial;
-        return Absorbed {
-            partial,
-            complete: pushed.complete,
-            count: 1,
-        };
+        return absorb_one(p, bytes[0]);
     }
     let n = if remaining < bytes.len() {
         remaining

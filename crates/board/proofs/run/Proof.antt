@@ -1,10 +1,10 @@
 -- `board::run` meets its contract: the loop carries the partial frame, and the rest of the record stays.
 -- Assumes nothing.
 use mathlib.Core.Path.{_≡_, refl, sym, ap, ap₂, subst, _∙_}
-use mathlib.Core.Bool.{false}
+use mathlib.Core.Bool.{true, false}
 use Prim.Native.Nat.{ℕ, _+_, _-_, _≤_, _<_}
 use native.Mathlib.Omega.{arith}
-use lib.ListN.{length, getD, drop, length-drop}
+use lib.ListN.{length, getD, take, drop, length-drop}
 use mir.Syntax.{w64}
 use mir.Val.{Fits}
 use borrow.Author.Needs.{needs}
@@ -66,8 +66,13 @@ module _ (c : tie.After-absorb Inv-loop μ-loop) where
   abbrev absorbed : Absorbed
   absorbed = absorbOf (at-loop .loop .partial) (drop (at-loop .loop .read) (start .args .bytes .now))
 
+  -- of what is left of the slice
+  of-the-rest : let l = start .args .bytes .now in
+      c .absorb .result ≡ absorbOf (at-loop .loop .partial) (take (length l - at-loop .loop .read) (drop (at-loop .loop .read) l))
+  of-the-rest = c .absorb .ensures
+
   is-absorbed : c .absorb .result ≡ absorbed
-  is-absorbed = c .absorb .ensures ∙ ap (absorbOf (at-loop .loop .partial)) (rest-is (start .args .bytes .now) (at-loop .loop .read))
+  is-absorbed = of-the-rest ∙ ap (absorbOf (at-loop .loop .partial)) (rest-is (start .args .bytes .now) (at-loop .loop .read))
 
   going : Going (start .args .state) (start .args .bytes .now) (start .args .image .now) (length (start .args .buffer .now)) (at-loop .loop .partial) (at-loop .loop .read)
   going = at-loop .loop .inv .1
@@ -100,12 +105,19 @@ absorb-requires c κs =
 loop-less : tie.Need-loop-less Inv-loop μ-loop
 loop-less c = let i = inside (c .before .before .before) in let h = more (c .before .before .before .before .before) in omega arith
 
+-- the test is of what was absorbed
+waits-on : (c : tie.Else3 Inv-loop μ-loop) → c .before .before .absorb .result .complete ≡ false
+waits-on c = c .if3 .left
+
+is-whole : (c : tie.Then3 Inv-loop μ-loop) → c .before .before .absorb .result .complete ≡ true
+is-whole c = c .if3 .taken
+
 loop-again : tie.Need-loop-again Inv-loop μ-loop
 loop-again c =
     let taken = c .before .before .before in
     let a = start taken .args in
     let n = at-loop taken .loop .read in
-    let e : absorbed taken .complete ≡ false = ap (λ (x : Absorbed). x .complete) (sym (is-absorbed taken)) ∙ c .before .if3 .left in
+    let e : absorbed taken .complete ≡ false = ap (λ (x : Absorbed). x .complete) (sym (is-absorbed taken)) ∙ waits-on (c .before) in
     let g = absorbed-on (a .state) (a .bytes .now) (a .image .now) (length (a .buffer .now)) (small taken) (going taken) (more (taken .before .before)) e in (
       at-loop taken .loop .inv .0,
       subst (λ (x : Absorbed). Going (a .state) (a .bytes .now) (a .image .now) (length (a .buffer .now)) (x .partial) (n + x .count)) (sym (is-absorbed taken)) g,
@@ -151,7 +163,7 @@ module _ (c : tie.After-with-partial2 Inv-loop μ-loop) where
       let a = start taken .args in
       let m = judgeOf (withPartial emptyPartial (a .state)) message (a .image .now) (length (a .buffer .now)) in
       absorbed-done (a .state) (a .bytes .now) (a .image .now) (length (a .buffer .now)) (small taken) (going taken) (more (taken .before .before))
-      (ap (λ (x : Absorbed). x .complete) (sym (is-absorbed taken)) ∙ judge .before .before .before .before .before .if3 .taken)
+      (ap (λ (x : Absorbed). x .complete) (sym (is-absorbed taken)) ∙ is-whole (judge .before .before .before .before .before))
       ∙ ap (λ (x : Absorbed). performed m (at-loop taken .loop .read + x .count)) (sym (is-absorbed taken))
 
 returns-3 : tie.Need-returns-3 Inv-loop μ-loop

@@ -1,17 +1,16 @@
 -- `frame::absorb` meets its contract: the first test says whether the length is known, and where the body is stored the bytes are put after those held.
 -- Assumes nothing.
-use mathlib.Core.Path.{_≡_, sym, ap, _∙_}
+use mathlib.Core.Path.{_≡_, refl, sym, ap, _∙_}
 use mathlib.Core.Logic.{⊎-elim}
 use Prim.Native.Nat.{_<_, min}
 use native.Mathlib.Omega.{arith}
-use lib.ListN.{length}
+use lib.ListN.{length, getD}
 use borrow.Author.Needs.{needs}
-use borrow.Author.Tests.{eq-eqb}
 use Rattle.wire.proofs.BoolLaws.{to-T}
-use Rattle.frame.specs.Push.{storesBodyAs, storesBody}
+use Rattle.frame.specs.Push.{storesBodyAs, storesBody, pushOf}
 use Rattle.frame.specs.Reach.{reachableOf}
 use Rattle.frame.specs.declared.Length.{Length}
-use Rattle.frame.proofs.AbsorbLaws.{room, absorb-one, absorb-stored, absorb-skipped}
+use Rattle.frame.proofs.AbsorbLaws.{short, room, absorb-one, absorb-stored, absorb-skipped}
 use Rattle.frame.proofs.absorb.Statement.{statement}
 use Rattle.frame.proofs.absorb.Tie as tie
 
@@ -25,12 +24,15 @@ stores c =
     let bytes = c .before .before .before .before .before .before .args .p .bytes in
     c .stores-body .ensures ∙ ap (λ (l : Length). storesBodyAs l bytes) (c .before .data-length .ensures)
 
+absorb-one-requires : tie.Need-absorb-one-requires
+absorb-one-requires c κs =
+    let a = c .before .before .before in
+    (c .before .if1 .taken, short (a .args .p) (to-T (reachableOf (a .args .p)) (a .pre .0)) (c .before .if1 .taken))
+
 returns : tie.Need-returns
 returns c =
-    let z = c .before .before .before .before .if1 .taken in
-    let a = c .before .before .before .before .before .before in
-    absorb-one (a .args .p) (a .args .bytes .now) z (a .pre .1) (c .before .measure .result)
-    (simp (c .before .measure .ensures, c .before .before .append .ensures, eq-eqb _ _ z))
+    let a = c .before .before .before .before in
+    c .absorb-one .ensures ∙ absorb-one (a .args .p) (a .args .bytes .now) (c .before .before .if1 .taken) (a .pre .1) (pushOf (a .args .p) (getD (a .args .bytes .now) 0 0)) refl
 
 put-part-requires : tie.Need-put-part-requires
 put-part-requires c κs =
@@ -42,8 +44,8 @@ put-part-requires c κs =
     let l : length (a .args .p .bytes) ≡ 35 = search needs in
     (omega arith, omega arith)
 
-sub-t14 : tie.Need-sub-t14
-sub-t14 c = let n = taken (c .before .before .before .before .before) in omega arith
+sub-t11 : tie.Need-sub-t11
+sub-t11 c = let n = taken (c .before .before .before .before .before) in omega arith
 
 returns-2 : tie.Need-returns-2
 returns-2 c =
@@ -64,13 +66,12 @@ absorb-spec =
     tie.close
     (tie.spec
     (λ c. search needs)
-    (λ c κs. search needs)
-    (λ c κs. search needs)
+    absorb-one-requires
     returns
     (λ c. search needs)
     (λ c κs. search needs)
     (λ c κs. search needs)
     (λ c. search needs)
     put-part-requires
-    sub-t14
+    sub-t11
     returns-2)
