@@ -17,9 +17,6 @@ use state::Songs;
 use state::State;
 use state::Stream;
 
-// The duty of a driver that 138 turns on.
-const FULL_DUTY: u8 = 128;
-
 // One setter for each part.
 
 pub fn with_mode(state: State, mode: u8) -> State
@@ -96,13 +93,13 @@ fn with_duties(state: State, duties: [u8; 3]) -> State
     with_motors(state, motors)
 }
 
-// A driver's duty by its bit, of which place is the worth: 1, 2 or 4.
+// A driver's duty by its bit, of which place is the worth: 1, 2 or 4. One that 138 turns on has all of it.
 fn duty_of(bits: u8, place: u8) -> u8
     requires { ⌜ 0 < place ⌝ }
     ensures { λ r. ⌜ r ≡ dutyOf bits place ⌝ }
 {
     if (bits / place) % 2 == 1 {
-        FULL_DUTY
+        command::FULL_DUTY
     } else {
         0
     }

@@ -205,8 +205,8 @@ fn stop(number: u8, state: State, read: usize) -> Ran
     }
 }
 
-// Bytes of a slice, fed until one gives a number other than 9 or the slice ends. The record is checked once: before the run's end only the partial frame
-// changes.
+// Bytes of a slice, fed until one gives a number other than 9 or the slice ends. The record is checked once, and a frame's data bytes are taken together: before
+// the run's end only the partial frame changes.
 pub fn run(state: State, bytes: &[u8], image: &[u8; 40], buffer: &mut [u8]) -> Ran
     ensures { λ r. ⌜ (r ≡ ranAs (runOf state (now (bytes .entry)) (now (image .entry)) (length (now (buffer .entry)))))
         × (now (buffer .exit) ≡ written (runOf state (now (bytes .entry)) (now (image .entry)) (length (now (buffer .entry))) .outcome) (now (buffer .entry))) ⌝ }
