@@ -194,7 +194,7 @@ fn judge(state: State, message: Message, image: &[u8; 40], buffer: &mut [u8]) ->
 }
 
 // A run that ends with nothing written.
-fn stop(number: u8, state: State, read: usize) -> Ran
+fn ended(number: u8, state: State, read: usize) -> Ran
     ensures { λ r. ⌜ r ≡ ranAs (performed (gives number state) read) ⌝ }
 {
     Ran {
@@ -212,13 +212,13 @@ pub fn run(state: State, bytes: &[u8], image: &[u8; 40], buffer: &mut [u8]) -> R
         × (now (buffer .exit) ≡ written (runOf state (now (bytes .entry)) (now (image .entry)) (length (now (buffer .entry))) .outcome) (now (buffer .entry))) ⌝ }
 {
     if !state::accepts(state) {
-        return stop(BAD_RECORD, state, 0);
+        return ended(BAD_RECORD, state, 0);
     }
     let mut partial = state.partial;
     let mut read = 0;
     let ran = loop {
         if read == bytes.len() {
-            break stop(WAITING, with_partial(state, partial), read);
+            break ended(WAITING, with_partial(state, partial), read);
         }
         let absorbed = frame::absorb(partial, &bytes[read..]);
         read += absorbed.count;
@@ -229,7 +229,7 @@ pub fn run(state: State, bytes: &[u8], image: &[u8; 40], buffer: &mut [u8]) -> R
             let sent = judge(state, message, image, buffer);
             let cleared = with_partial(state, frame::empty());
             if sent.number != DONE {
-                break stop(sent.number, cleared, read);
+                break ended(sent.number, cleared, read);
             }
             break Ran {
                 number: DONE,

@@ -1,4 +1,6 @@
 // One record of a file: a setting, or a call of the board.
+use crate::input::ROOM;
+use crate::input::STATE;
 use crate::layout::byte_at;
 use crate::layout::state_of;
 use crate::layout::take;
@@ -11,12 +13,6 @@ use state::State;
 use terminal::within;
 
 const IMAGE: u8 = 5;
-
-const ROOM: u8 = 130;
-
-const STATE: u8 = 131;
-
-pub const RUN: u8 = 129;
 
 // What settings leave for the calls after them: the sensor image, and the length of the buffer that is lent.
 pub struct Setup {

@@ -11,14 +11,14 @@ use terminal::within;
 // More than the longest record: a run of 1,024 bytes.
 const LONGEST: usize = 2048;
 
-// The kinds whose body is looked at before the record is performed.
+// The kinds whose body is looked at before the record is performed; the last three are asked for elsewhere too.
 const REPORT: u8 = 2;
 
-const RUN: u8 = 129;
+pub const RUN: u8 = 129;
 
-const ROOM: u8 = 130;
+pub const ROOM: u8 = 130;
 
-const STATE: u8 = 131;
+pub const STATE: u8 = 131;
 
 // What is wrong with a record, or that nothing is. The last two are no faults of the file: its end, and a read that failed.
 pub const WHOLE: u8 = 0;

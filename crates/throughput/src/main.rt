@@ -96,7 +96,7 @@ fn perform(first: State, style: u8, block: &mut [u8]) {
             setup = calls::set(setup, record.kind, body);
         } else {
             let lent = calls::lent(buffer, setup.room);
-            let given = if record.kind == calls::RUN {
+            let given = if record.kind == input::RUN {
                 let ran = board::run(states[at], body, &setup.image, lent);
                 let after = ran.state;
                 states[1 - at] = after;

@@ -42,7 +42,7 @@ unfolding runOf
 returns c =
     let a = c .before .before .before .before .before .args in
     let e = sym (c .before .before .accepts .ensures) ∙ not-true _ (c .before .if1 .taken) in
-    ran-gives (a .buffer .now) (cond-false (acceptedOf (a .state)) _ (performed (gives 8 (a .state)) 0) e) (c .stop .ensures)
+    ran-gives (a .buffer .now) (cond-false (acceptedOf (a .state)) _ (performed (gives 8 (a .state)) 0) e) (c .ended .ensures)
 
 loop-holds : tie.Need-loop-holds Inv-loop μ-loop
 loop-holds c =
@@ -131,7 +131,7 @@ returns-2 c =
     let h : length (a .bytes .now) ≤ loop .read = omega (arith, c .before .before .if2 .taken) in
     rw (loop .inv .0)
     (ran-gives (a .buffer .now) (going-end (a .state) (a .bytes .now) (a .image .now) (length (a .buffer .now)) (loop .inv .1) h)
-    (c .stop2 .ensures ∙ ap (λ (s : State). ranAs (performed (gives 9 s) (loop .read))) (c .before .with-partial .ensures)))
+    (c .ended2 .ensures ∙ ap (λ (s : State). ranAs (performed (gives 9 s) (loop .read))) (c .before .with-partial .ensures)))
 
 -- the frame is whole, and its command was judged
 module _ (c : tie.After-with-partial2 Inv-loop μ-loop) where
@@ -172,7 +172,7 @@ returns-3 c =
     let a = start (taken at) .args in
     ran-met (a .buffer .now) (whole at)
     (ran-refused (a .state) (message at) (a .image .now) (a .buffer .now) (read at) (met at) (c .before .if4 .taken)
-    (c .stop3 .ensures ∙ ap (λ (s : State). ranAs (performed (gives (judge at .judge .result .number) s) (read at))) (cleared at)))
+    (c .ended3 .ensures ∙ ap (λ (s : State). ranAs (performed (gives (judge at .judge .result .number) s) (read at))) (cleared at)))
 
 effect-requires : tie.Need-effect-requires Inv-loop μ-loop
 effect-requires c κs =
