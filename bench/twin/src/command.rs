@@ -16,7 +16,8 @@ pub enum Command<'a> {
     Control,
     Safe,
     Full,
-    /// The commands that only lead to Passive: 133 to 136 and 143.
+    /// The commands that only lead to Passive: 133 to 136 and 143. The number
+    /// of 136 is judged, and no more.
     Rest,
     Drive {
         velocity: i16,
@@ -49,7 +50,7 @@ pub fn allowed(opcode: u8, mode: Mode) -> bool {
     match opcode {
         128 => true,
         130 => mode == Mode::Passive,
-        133 | 136..=139 | 141 | 144 | 145 | 147 | 151 => matches!(mode, Mode::Safe | Mode::Full),
+        133 | 137..=139 | 141 | 144 | 145 | 147 | 151 => matches!(mode, Mode::Safe | Mode::Full),
         _ => mode != Mode::Off,
     }
 }
@@ -65,7 +66,8 @@ pub fn parse(opcode: u8, data: &[u8]) -> Option<Command<'_>> {
         (130, []) => Some(Command::Control),
         (131, []) => Some(Command::Safe),
         (132, []) => Some(Command::Full),
-        (133..=136 | 143, []) => Some(Command::Rest),
+        (133..=135 | 143, []) => Some(Command::Rest),
+        (136, &[demo]) => is_demo(demo).then_some(Command::Rest),
         (137, &[a, b, c, d]) => parse_drive(number(a, b), number(c, d)),
         (138, &[bits]) => (bits <= 7).then_some(Command::Drivers(bits)),
         (139, &[a, b, c]) => Some(Command::Leds([a, b, c])),
@@ -88,6 +90,11 @@ pub fn parse(opcode: u8, data: &[u8]) -> Option<Command<'_>> {
 /// A sixteen-bit number in two's complement, high byte first.
 fn number(high: u8, low: u8) -> i16 {
     i16::from_be_bytes([high, low])
+}
+
+/// Whether a byte, which has a sign, is a Demo's number.
+fn is_demo(byte: u8) -> bool {
+    (-1..=9).contains(&(byte as i8))
 }
 
 fn parse_drive(velocity: i16, radius: i16) -> Option<Command<'static>> {

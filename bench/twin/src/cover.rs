@@ -2,12 +2,13 @@
 
 use std::io::{self, Write};
 
-use crate::board::{Board, Mode};
+use crate::board::{Board, Mode, Number};
 use crate::check::{self, Item};
 use crate::command;
 use crate::file::Call;
 use crate::frame::{self, Standing};
 use crate::perform::{Observer, Outcome};
+use crate::writer::Message;
 
 const MODES: [Mode; 4] = [Mode::Off, Mode::Passive, Mode::Safe, Mode::Full];
 
@@ -29,6 +30,8 @@ pub struct Cover {
     done: [[u64; MODES.len()]; 256],
     /// By item: how often a call got a record that breaks it and no other.
     bad: [u64; Item::ALL.len()],
+    /// Of Demo alone.
+    demo: Demo,
     /// The opcode and mode of the frame that the present call may complete.
     at_hand: Option<(u8, Mode)>,
     /// The one item that the present call's record breaks.
@@ -47,6 +50,7 @@ impl Cover {
             numbers: [[0; 10]; KINDS.len()],
             done: [[0; MODES.len()]; 256],
             bad: [0; Item::ALL.len()],
+            demo: Demo::new(),
             at_hand: None,
             broken: None,
         }
@@ -71,31 +75,44 @@ impl Cover {
         for (item, count) in Item::ALL.iter().zip(self.bad) {
             writeln!(out, "bad {} {count}", item.name())?;
         }
-        Ok(())
+        self.demo.write_rows(out)
+    }
+
+    /// Counts a Demo that the call ended or that the writer was asked for.
+    fn count_demo(&mut self, call: &Call, outcome: Outcome) {
+        if let Call::Write(Message { opcode: DEMO, .. }) = call {
+            self.demo.written[outcome.number as usize] += 1;
+        }
+        let last_read = serial_bytes(call)[..outcome.read].last();
+        if let (Some((DEMO, _)), Some(&byte)) = (self.at_hand, last_read) {
+            if outcome.number != Number::Waiting {
+                self.demo.end(byte, outcome.number);
+            }
+        }
     }
 }
 
 impl Observer for Cover {
     fn before(&mut self, call: &Call, board: &Board) {
-        let slice = match call {
-            Call::Byte(byte) => std::slice::from_ref(byte),
-            Call::Run(slice) => slice,
-            _ => &[],
-        };
         // A call reads on in one frame at most: the held one, or else the one
         // that its first byte begins. Until that frame ends the mode stays.
         let opcode = if board.held.used == 0 {
-            slice.first().copied()
+            serial_bytes(call).first().copied()
         } else {
             Some(board.held.opcode())
         };
         self.at_hand = opcode.zip(Mode::from_code(board.mode));
+        self.broken = None;
         // The writer gets no record.
-        self.broken = match call {
-            Call::Write(_) => None,
-            _ if check::is_good(board) => None,
-            _ => check::only_broken(board),
-        };
+        if matches!(call, Call::Write(_)) {
+            return;
+        }
+        if !check::is_good(board) {
+            self.broken = check::only_broken(board);
+        }
+        if let Some(row) = held_demo(board) {
+            self.demo.held[row] += 1;
+        }
     }
 
     fn after(
@@ -123,6 +140,115 @@ impl Observer for Cover {
         if let Some(item) = self.broken {
             self.bad[item as usize] += 1;
         }
+        self.count_demo(call, outcome);
         Ok(())
     }
+}
+
+/// The bytes that a call offers to the reader of frames.
+fn serial_bytes<'a>(call: &'a Call) -> &'a [u8] {
+    match call {
+        Call::Byte(byte) => std::slice::from_ref(byte),
+        Call::Run(slice) => slice,
+        _ => &[],
+    }
+}
+
+/// The opcode of Demo, of which more is counted than of the others: it alone has
+/// a single byte with a sign.
+const DEMO: u8 = 136;
+
+/// What a Demo can give at its end.
+const DEMO_ENDS: [u8; 3] = [0, 3, 4];
+
+/// The numbers of a Demo that are counted one by one: the ends of the legal
+/// range and of a signed byte, those beside them, and 0.
+const DEMO_BYTES: [u8; 7] = [254, 255, 0, 9, 10, 127, 128];
+
+/// The held Demos that are counted: a name, the places in use, the number owed,
+/// and the item that a record breaks by it.
+const DEMO_HELD: [(&str, u16, u16, Option<Item>); 4] = [
+    ("alone", 1, 1, None),
+    ("owed-0", 1, 0, Some(Item::HeldOwed)),
+    ("owed-2", 1, 2, Some(Item::HeldOwed)),
+    ("whole", 2, 0, Some(Item::HeldBytes)),
+];
+
+/// What the writer can give for a Demo.
+const DEMO_WRITES: [u8; 3] = [0, 4, 7];
+
+/// The counts of Demo.
+struct Demo {
+    /// By number given: how often a byte or a run ended one.
+    ended: [u64; 10],
+    /// By byte: how often it came as the number, and decided.
+    judged: [u64; 256],
+    /// By row of `DEMO_HELD`: how often a call got a record that meets it.
+    held: [u64; DEMO_HELD.len()],
+    /// By number given: how often the writer was asked for one.
+    written: [u64; 10],
+}
+
+impl Demo {
+    fn new() -> Demo {
+        Demo {
+            ended: [0; 10],
+            judged: [0; 256],
+            held: [0; DEMO_HELD.len()],
+            written: [0; 10],
+        }
+    }
+
+    /// Counts a Demo that ended with this byte and gave this number.
+    fn end(&mut self, byte: u8, number: Number) {
+        self.ended[number as usize] += 1;
+        // In a wrong mode the byte isn't looked at.
+        if number != Number::WrongMode {
+            self.judged[usize::from(byte)] += 1;
+        }
+    }
+
+    /// How often an opcode came as the number, as it does when the number is
+    /// lost; 128 is counted by itself.
+    fn opcodes_judged(&self) -> u64 {
+        (129..=255)
+            .filter(|&byte| frame::standing(byte) != Standing::Unknown)
+            .map(|byte| self.judged[usize::from(byte)])
+            .sum()
+    }
+
+    fn write_rows(&self, out: &mut impl Write) -> io::Result<()> {
+        for number in DEMO_ENDS {
+            let count = self.ended[usize::from(number)];
+            writeln!(out, "ended {DEMO} {number} {count}")?;
+        }
+        for byte in DEMO_BYTES {
+            let count = self.judged[usize::from(byte)];
+            writeln!(out, "judged {DEMO} {byte} {count}")?;
+        }
+        writeln!(out, "judged {DEMO} opcode {}", self.opcodes_judged())?;
+        for ((name, ..), count) in DEMO_HELD.iter().zip(self.held) {
+            writeln!(out, "held {DEMO} {name} {count}")?;
+        }
+        for number in DEMO_WRITES {
+            let count = self.written[usize::from(number)];
+            writeln!(out, "write {DEMO} {number} {count}")?;
+        }
+        Ok(())
+    }
+}
+
+/// The row of held Demos that a record meets: it breaks the row's item and no
+/// other, or is good where the row has none.
+fn held_demo(board: &Board) -> Option<usize> {
+    let held = &board.held;
+    if held.used == 0 || held.opcode() != DEMO {
+        return None;
+    }
+    DEMO_HELD.iter().position(|&(_, used, owed, item)| {
+        held.used == used
+            && held.owed == owed
+            && check::only_broken(board) == item
+            && check::is_good(board) == item.is_none()
+    })
 }

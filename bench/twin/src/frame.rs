@@ -33,7 +33,7 @@ pub enum Standing {
 /// The frame table. The cut follows from it alone, never from the mode.
 pub fn shape(opcode: u8) -> Shape {
     match opcode {
-        129 | 138 | 141 | 142 | 147 | 150 | 151 | 155 | 158 => Shape::Fixed(1),
+        129 | 136 | 138 | 141 | 142 | 147 | 150 | 151 | 155 | 158 => Shape::Fixed(1),
         156 | 157 => Shape::Fixed(2),
         139 | 144 => Shape::Fixed(3),
         137 | 145 => Shape::Fixed(4),

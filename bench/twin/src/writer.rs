@@ -50,8 +50,8 @@ fn lay_out(message: &Message, places: &mut [u8; FRAME_PLACES]) -> Option<usize> 
         length += bytes.len();
     };
     match message.opcode {
-        128 | 130..=136 | 143 => {}
-        129 | 138 | 141 | 142 | 147 | 150 | 151 => add(&[message.a]),
+        128 | 130..=135 | 143 => {}
+        129 | 136 | 138 | 141 | 142 | 147 | 150 | 151 => add(&[message.a]),
         139 | 144 => add(&[message.a, message.b, message.c]),
         137 | 145 => {
             add(&message.first.to_be_bytes());

@@ -152,6 +152,17 @@ fn malformed_files() {
     }
 }
 
+/// The rows of the cover table that a file meets.
+fn met(file: &[u8]) -> Vec<String> {
+    let mut cover = Cover::new();
+    assert_eq!(perform(file, &mut cover).unwrap(), None);
+    let mut out = Vec::new();
+    cover.write_table(&mut out).unwrap();
+    let table = String::from_utf8(out).unwrap();
+    let met = table.lines().filter(|line| !line.ends_with(" 0"));
+    met.map(str::to_string).collect()
+}
+
 #[test]
 fn cover_counts() {
     let mut bad = Board::power_on();
@@ -160,12 +171,6 @@ fn cover_counts() {
     file.push(131);
     file.extend_from_slice(&layout::state_bytes(&bad));
     file.extend_from_slice(&[3, 4]);
-    let mut cover = Cover::new();
-    assert_eq!(perform(&file, &mut cover).unwrap(), None);
-    let mut out = Vec::new();
-    cover.write_table(&mut out).unwrap();
-    let table = String::from_utf8(out).unwrap();
-    let met: Vec<&str> = table.lines().filter(|line| !line.ends_with(" 0")).collect();
     let expected = [
         "byte 0 2",
         "run 0 1",
@@ -176,5 +181,70 @@ fn cover_counts() {
         "done 147 Safe 1",
         "bad baud 2",
     ];
-    assert_eq!(met, expected);
+    assert_eq!(met(&file), expected);
+}
+
+#[test]
+fn cover_counts_of_demo() {
+    // In Off; from Passive with 255, 10, 131 and a run of 128s.
+    let mut file = vec![129, 0, 2, 136, 255, 1, 128, 129, 0, 3, 136, 255, 136];
+    file.extend_from_slice(&[129, 0, 2, 136, 10, 1, 136, 2, 7, 1, 131]);
+    file.extend_from_slice(&[129, 0, 1, 136, 129, 0, 2, 128, 128]);
+    // A tick on each of the held frames that are counted, and on one with a
+    // second fault.
+    let mut board = Board::power_on();
+    board.mode = 1;
+    for (used, owed, baud) in [(1, 1, 0), (1, 0, 0), (1, 2, 0), (2, 0, 0), (1, 0, 12)] {
+        board.held.places[0] = 136;
+        board.held.used = used;
+        board.held.owed = owed;
+        board.baud = baud;
+        file.push(131);
+        file.extend_from_slice(&layout::state_bytes(&board));
+        file.push(3);
+    }
+    // The writer gets no record, and so none is counted for it.
+    board.held.owed = 1;
+    board.baud = 0;
+    file.push(131);
+    file.extend_from_slice(&layout::state_bytes(&board));
+    for (room, demo) in [(2, 9), (2, 10), (1, 9), (1, 10)] {
+        file.extend_from_slice(&[130, 0, room, 132, 136, demo]);
+        file.extend_from_slice(&[0; 38]);
+    }
+    let expected = [
+        "byte 0 1",
+        "byte 4 1",
+        "byte 9 1",
+        "run 0 1",
+        "run 3 1",
+        "run 4 2",
+        "run 9 1",
+        "report 0 1",
+        "tick 0 1",
+        "tick 8 4",
+        "write 0 1",
+        "write 4 2",
+        "write 7 1",
+        "done 128 Off 1",
+        "done 136 Passive 1",
+        "bad held-frame-bytes 1",
+        "bad held-frame-owed 2",
+        "ended 136 0 1",
+        "ended 136 3 1",
+        "ended 136 4 3",
+        "judged 136 255 1",
+        "judged 136 10 1",
+        "judged 136 128 1",
+        "judged 136 opcode 1",
+        // The report, the byte and the run after a 136, and the tick.
+        "held 136 alone 4",
+        "held 136 owed-0 1",
+        "held 136 owed-2 1",
+        "held 136 whole 1",
+        "write 136 0 1",
+        "write 136 4 2",
+        "write 136 7 1",
+    ];
+    assert_eq!(met(&file), expected);
 }

@@ -10,8 +10,8 @@ use twin::board::{Board, Mode, Number, WheelOrder};
 fn fixed(opcode: u8) -> Option<usize> {
     match opcode {
         140 | 148 | 149 | 152 => None,
-        128 | 130..=136 | 143 | 153 | 154 => Some(0),
-        129 | 138 | 141 | 142 | 147 | 150 | 151 | 155 | 158 => Some(1),
+        128 | 130..=135 | 143 | 153 | 154 => Some(0),
+        129 | 136 | 138 | 141 | 142 | 147 | 150 | 151 | 155 | 158 => Some(1),
         156 | 157 => Some(2),
         139 | 144 => Some(3),
         137 | 145 => Some(4),
@@ -126,4 +126,5 @@ fn run_table() {
     assert_eq!(first_opcode(&[149, 3, 1]), 3);
     assert_eq!(first_opcode(&[152, 200, 1]), 200);
     assert_eq!(first_opcode(&[155]), 2);
+    assert_eq!(first_opcode(&[136]), 2);
 }

@@ -1,8 +1,10 @@
-//! Made files: the same from the same seed, whole, and with as many calls as
-//! were asked for.
+//! Made files: the same from the same seed, whole, with as many calls as were
+//! asked for, and together meeting every row of the cover table.
 
+use twin::cover::Cover;
 use twin::file::{Record, Records};
 use twin::make::{make, KINDS};
+use twin::perform::perform;
 
 fn made(kind: &str, seed: u64, count: u64) -> Vec<u8> {
     let mut bytes = Vec::new();
@@ -28,6 +30,21 @@ fn kinds() {
         assert_eq!(bytes, made(kind, 5, 3000), "{kind}");
         assert_ne!(bytes, made(kind, 6, 3000), "{kind}");
     }
+}
+
+/// A file of each kind, as long as those of the short setting, leaves no row of
+/// the cover table unmet.
+#[test]
+fn every_row_is_met() {
+    let mut cover = Cover::new();
+    for (kind, _) in KINDS {
+        perform(&made(kind, 1, 25_000), &mut cover).unwrap();
+    }
+    let mut out = Vec::new();
+    cover.write_table(&mut out).unwrap();
+    let table = String::from_utf8(out).unwrap();
+    let unmet: Vec<&str> = table.lines().filter(|line| line.ends_with(" 0")).collect();
+    assert_eq!(unmet, [""; 0]);
 }
 
 #[test]

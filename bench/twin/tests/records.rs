@@ -60,7 +60,7 @@ type Change = (Item, fn(&mut Board));
 
 #[test]
 fn each_item_alone() {
-    let changes: [Change; 32] = [
+    let changes: [Change; 35] = [
         (Item::Mode, |b| b.mode = 4),
         (Item::Mode, |b| b.mode = 255),
         (Item::OrderKind, |b| b.wheels.kind = 3),
@@ -103,8 +103,11 @@ fn each_item_alone() {
         (Item::UnusedFrame, |b| b.held.places[34] = 1),
         (Item::HeldBytes, |b| b.held = held(&[128], 0)),
         (Item::HeldBytes, |b| b.held = held(&[146], 0)),
+        (Item::HeldBytes, |b| b.held = held(&[136, 9], 0)),
         (Item::HeldBytes, |b| b.held.used = 65535),
         (Item::HeldOwed, |b| b.held.owed = 1),
+        (Item::HeldOwed, |b| b.held = held(&[136], 0)),
+        (Item::HeldOwed, |b| b.held = held(&[136], 2)),
         (Item::HeldOwed, |b| b.held = held(&[137], 3)),
         (Item::HeldOwed, |b| b.held = held(&[140, 0, 255], 511)),
         (Item::HeldOwed, |b| b.held = held(&[148], 1)),
@@ -120,12 +123,19 @@ fn each_item_alone() {
 fn held_frames() {
     // Bytes, owed, and whether the frame table can leave them so.
     let longest: Vec<u8> = [&[140, 15, 16][..], &[1; 32]].concat();
-    let rows: [(&[u8], u16, bool); 36] = [
+    let rows: [(&[u8], u16, bool); 43] = [
         (&[], 0, true),
         (&[129], 1, true),
         (&[129], 0, false),
         (&[129, 0], 0, false),
         (&[129, 0], 1, false),
+        (&[136], 1, true),
+        (&[136], 0, false),
+        (&[136], 2, false),
+        (&[136], 510, false),
+        (&[136, 0], 0, false),
+        (&[136, 255], 1, false),
+        (&[136, 10], 0, false),
         (&[137, 1, 2, 3], 1, true),
         (&[137, 1, 2, 3, 4], 0, false),
         (&[156, 1], 1, true),

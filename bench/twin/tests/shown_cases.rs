@@ -211,7 +211,15 @@ fn duties_and_drivers() {
 
 #[test]
 fn every_way_to_passive_stops() {
-    let ways: [&[u8]; 7] = [&[128], &[129, 11], &[133], &[134], &[135], &[136], &[143]];
+    let ways: [&[u8]; 7] = [
+        &[128],
+        &[129, 11],
+        &[133],
+        &[134],
+        &[135],
+        &[136, 255],
+        &[143],
+    ];
     for way in ways {
         let mut board = in_mode(Mode::Full);
         give(&mut board, &[137, 0, 1, 0, 1, 138, 7, 139, 1, 2, 3]);
@@ -255,7 +263,7 @@ fn modes_of_every_command() {
         (&[133], [false, false, true, true]),
         (&[134], [false, true, true, true]),
         (&[135], [false, true, true, true]),
-        (&[136], [false, false, true, true]),
+        (&[136, 9], [false, true, true, true]),
         (&[137, 0, 0, 0, 1], [false, false, true, true]),
         (&[138, 0], [false, false, true, true]),
         (&[139, 255, 255, 255], [false, false, true, true]),
@@ -289,9 +297,15 @@ fn modes_of_every_command() {
 
 #[test]
 fn data_at_their_limits() {
-    let rows: [(&[u8], bool); 30] = [
+    let rows: [(&[u8], bool); 36] = [
         (&[129, 11], true),
         (&[129, 12], false),
+        (&[136, 255], true),
+        (&[136, 254], false),
+        (&[136, 9], true),
+        (&[136, 10], false),
+        (&[136, 127], false),
+        (&[136, 128], false),
         (&[137, 1, 244, 7, 208], true),
         (&[137, 1, 245, 7, 208], false),
         (&[137, 254, 12, 248, 48], true),

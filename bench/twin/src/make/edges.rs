@@ -159,6 +159,11 @@ fn to_an_end(rng: &mut Rng, message: &mut Message) {
     let duties = [0, 127, 128, 129, 255];
     match message.opcode {
         129 => message.a = rng.pick(&[0, 11, 12, 255]),
+        136 => {
+            // A signed byte: 255 is -1, and 128 the least there is.
+            let any = rng.any();
+            message.a = rng.pick(&[254, 255, 0, 9, 10, 127, 128, any]);
+        }
         138 | 147 => message.a = rng.pick(&[0, 7, 8, 255]),
         141 => message.a = rng.pick(&[0, 15, 16, 255]),
         142 => message.a = rng.pick(&[0, 42, 43, 255]),
@@ -204,7 +209,7 @@ pub fn frame_at_an_end(rng: &mut Rng, opcode: u8) -> Vec<u8> {
     to_an_end(rng, &mut message);
     let mut frame = vec![opcode];
     let counted = match opcode {
-        129 | 138 | 141 | 142 | 147 | 150 | 151 => {
+        129 | 136 | 138 | 141 | 142 | 147 | 150 | 151 => {
             frame.push(message.a);
             0
         }
@@ -234,7 +239,7 @@ pub fn frame_at_an_end(rng: &mut Rng, opcode: u8) -> Vec<u8> {
 /// The length of an offered command's frame, its counts being legal.
 fn frame_length(message: &Message) -> usize {
     match message.opcode {
-        129 | 138 | 141 | 142 | 147 | 150 | 151 => 2,
+        129 | 136 | 138 | 141 | 142 | 147 | 150 | 151 => 2,
         139 | 144 => 4,
         137 | 145 => 5,
         140 => 3 + 2 * usize::from(message.b.min(16)),

@@ -50,6 +50,12 @@ pub fn radius(rng: &mut Rng) -> i16 {
     }
 }
 
+/// A legal number of a Demo, often -1, 0 or 9.
+fn demo(rng: &mut Rng) -> u8 {
+    let any = rng.number(-1, 9) as u8;
+    rng.pick(&[255, 0, 9, any])
+}
+
 /// So many ids of packets.
 pub fn ids(rng: &mut Rng, count: usize) -> Vec<u8> {
     (0..count).map(|_| rng.byte(0, packet::LAST_ID)).collect()
@@ -103,6 +109,7 @@ pub fn legal(rng: &mut Rng, opcode: u8) -> Vec<u8> {
     let mut frame = vec![opcode];
     match opcode {
         129 => frame.push(rng.byte(0, 11)),
+        136 => frame.push(demo(rng)),
         137 => {
             frame.extend_from_slice(&speed(rng).to_be_bytes());
             frame.extend_from_slice(&radius(rng).to_be_bytes());
@@ -184,7 +191,7 @@ pub fn command_for(rng: &mut Rng, mode: Mode) -> u8 {
 /// data, at every place, with counts of every size.
 pub fn half_read(rng: &mut Rng) -> Vec<u8> {
     match rng.below(8) {
-        0 => vec![rng.pick(&[140, 148, 149, 152])],
+        0 => vec![rng.pick(&[136, 140, 148, 149, 152])],
         1 => vec![140, rng.any()],
         2 => counted(rng),
         3 => long_song(rng),
@@ -233,7 +240,7 @@ fn short_song(rng: &mut Rng) -> Vec<u8> {
 /// The bytes so far of a frame whose opcode fixes its length.
 fn fixed(rng: &mut Rng) -> Vec<u8> {
     let opcode = rng.pick(&[
-        129, 138, 141, 142, 147, 150, 151, 155, 158, 156, 157, 139, 144, 137, 145,
+        129, 136, 138, 141, 142, 147, 150, 151, 155, 158, 156, 157, 139, 144, 137, 145,
     ]);
     let data: usize = match opcode {
         156 | 157 => 2,

@@ -6,6 +6,7 @@ use crate::check::{self, Item};
 use crate::frame::{HeldFrame, FRAME_PLACES};
 use crate::packet::{Image, IMAGE_BYTES};
 
+use super::edges::frame_at_an_end;
 use super::frames;
 use super::rng::Rng;
 use super::tape::Tape;
@@ -235,10 +236,10 @@ fn hold(board: &mut Board, bytes: &[u8], owed: usize) {
 fn hold_wrong_bytes(rng: &mut Rng, board: &mut Board) {
     let owed = rng.pick(&[0, 0, 1, 2, 510]);
     let low = rng.byte(1, 16);
-    let mut bytes = match rng.below(7) {
+    let mut bytes = match rng.below(9) {
         // Opcodes without data are never held.
         0 => vec![rng.pick(&[
-            0, 127, 128, 130, 131, 132, 133, 134, 135, 136, 143, 146, 153, 154, 159, 255,
+            0, 127, 128, 130, 131, 132, 133, 134, 135, 143, 146, 153, 154, 159, 255,
         ])],
         // As many data as there are.
         1 => {
@@ -259,6 +260,8 @@ fn hold_wrong_bytes(rng: &mut Rng, board: &mut Board) {
         3 => vec![152, low, 0],
         4 => vec![rng.pick(&[148, 149]), beyond(rng, 17), 0],
         5 => vec![140, rng.any(), beyond(rng, 17), 0],
+        // A Demo that has its number.
+        6 | 7 => vec![136, rng.any()],
         // More places than there are, or all of them.
         _ => {
             hold_any(rng, board);
@@ -275,10 +278,11 @@ fn hold_wrong_bytes(rng: &mut Rng, board: &mut Board) {
 
 /// Owes a number that the frame table can't leave beside the held bytes.
 fn owe_wrong(rng: &mut Rng, board: &mut Board) {
-    if rng.one_in(8) {
-        hold(board, &[], 0);
-    } else {
-        hold_any(rng, board);
+    match rng.below(8) {
+        0 => hold(board, &[], 0),
+        // A Demo alone owes 1; 0 and 2 are beside it.
+        1 | 2 => hold(board, &[136], 1),
+        _ => hold_any(rng, board),
     }
     let owed = board.held.owed;
     let opcode = board.held.places[0];
@@ -395,7 +399,7 @@ pub fn records(tape: &mut Tape, rng: &mut Rng) {
 
 /// Any call, with bytes that often end the held frame or are whole frames.
 fn any_call(tape: &mut Tape, rng: &mut Rng) {
-    match rng.below(10) {
+    match rng.below(11) {
         0 | 1 => {
             tape.byte(128);
         }
@@ -421,6 +425,9 @@ fn any_call(tape: &mut Tape, rng: &mut Rng) {
         }
         7 => tape.tick(),
         8 => tape.report(rng.byte(0, 7)),
+        9 => {
+            tape.run(&frame_at_an_end(rng, 136));
+        }
         _ => tape.song_end(),
     }
 }

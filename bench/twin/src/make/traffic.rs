@@ -137,17 +137,31 @@ fn damage(rng: &mut Rng, bytes: &[u8]) -> Vec<u8> {
     damaged
 }
 
+/// A 136 that has lost its number, and frames after it: the next opcode is taken
+/// for the number, and that command's data for opcodes.
+fn number_lost(rng: &mut Rng, mode: Mode, count: usize) -> Vec<u8> {
+    let mut bytes = vec![136];
+    bytes.extend(several(rng, mode, count).concat());
+    bytes
+}
+
 /// Valid traffic with bytes dropped, doubled and changed.
 pub fn damaged(tape: &mut Tape, rng: &mut Rng) {
     while tape.open() {
         let count = 1 + rng.below(4);
-        let damaged = if rng.one_in(3) {
+        let damaged = match rng.below(12) {
             // Damage that just passes a limit, or just doesn't.
-            let opcode = frames::command_for(rng, mode(tape));
-            frame_at_an_end(rng, opcode)
-        } else {
-            let bytes = several(rng, mode(tape), count).concat();
-            damage(rng, &bytes)
+            0..=2 => {
+                let opcode = frames::command_for(rng, mode(tape));
+                frame_at_an_end(rng, opcode)
+            }
+            // Often enough that each end of a Demo's number comes.
+            3 => frame_at_an_end(rng, 136),
+            4 => number_lost(rng, mode(tape), count),
+            _ => {
+                let bytes = several(rng, mode(tape), count).concat();
+                damage(rng, &bytes)
+            }
         };
         match rng.below(3) {
             0 => tape.runs(&damaged),
