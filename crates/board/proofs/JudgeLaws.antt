@@ -41,7 +41,7 @@ effect-partial cmd.Control p s = refl
 effect-partial cmd.Safe p s = refl
 effect-partial cmd.Full p s = refl
 effect-partial cmd.Power p s = refl
-effect-partial cmd.Demo p s = refl
+effect-partial (cmd.Demo number) p s = refl
 effect-partial cmd.Spot p s = refl
 effect-partial cmd.Cover p s = refl
 effect-partial cmd.Dock p s = refl
@@ -92,7 +92,7 @@ module _ (s : State) (t : T (acceptedOf s)) where
   effect-accepted cmd.Safe p a m e = k .mode-kept 2 (omega arith) (λ (h : 2 ≤ 1). absurd (omega arith))
   effect-accepted cmd.Full p a m e = k .mode-kept 3 (omega arith) (λ (h : 3 ≤ 1). absurd (omega arith))
   effect-accepted cmd.Power p a m e = k .passive-kept
-  effect-accepted cmd.Demo p a m e = k .passive-kept
+  effect-accepted (cmd.Demo number) p a m e = k .passive-kept
   effect-accepted cmd.Spot p a m e = k .passive-kept
   effect-accepted cmd.Cover p a m e = k .passive-kept
   effect-accepted cmd.Dock p a m e = k .passive-kept

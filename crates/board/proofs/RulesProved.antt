@@ -1,27 +1,42 @@
 -- The rules, for every record and every value.
 -- Assumes nothing.
-use mathlib.Core.Path.{_≡_, refl}
-use mathlib.Core.Bool.{Bool, true, false, _&&_, and-false}
+use mathlib.Core.Path.{_≡_, refl, sym, ap, _∙_}
+use mathlib.Core.Bool.{Bool, true, false, not, cond, _&&_, _||_, Bool·beq, and-false}
 use mathlib.Core.List.{List, [], _∷_}
-use Prim.Native.Nat.{ℕ}
+use Prim.Native.Nat.{ℕ, _≤_, _<_, zero-le}
+use native.Mathlib.Omega.{arith}
 use lib.Dec.{T, leb, eqb, leb·zero}
 use lib.IntN.{pos}
-use lib.Signed.{ltZ}
-use lib.ListN.{length, take}
+use lib.Signed.{leZ, ltZ}
+use lib.ListN.{length, take, replicate}
 use borrow.Author.Tests.{le-leb, lt-leb, eq-eqb, ne-eqb}
+use Rattle.wire.specs.Lists.{among}
+use Rattle.wire.specs.Signed.{read8Of}
 use Rattle.wire.specs.Sixteen.{minus}
-use Rattle.wire.proofs.BoolLaws.{is-true, pos-eqb, or-none, cond-not}
+use Rattle.wire.proofs.BoolLaws.{is-true, beq-eq, pos-eqb, or-none, cond-not}
+use Rattle.wire.proofs.ListsLaws.{from}
+use Rattle.frame.specs.FrameTable.{dataLength}
+use Rattle.frame.specs.Push.{bodySizeAs, emptyPartial}
+use Rattle.frame.specs.RunTable.{waits}
+use Rattle.frame.specs.Reach.{reachableOf}
+use Rattle.frame.specs.declared.Partial.{Partial}
 use Rattle.packet.specs.Packets.{answerBytes}
-use Rattle.command.specs.Layout.{refusalOf}
+use Rattle.command.specs.Layout.{refusalOf, commandOf, decodeOf}
+use Rattle.command.specs.CommandTable.{rowOf, allowedOf, legalOf}
+use Rattle.command.specs.Commands.{message}
 use Rattle.command.specs.declared.Command.{Command}
 use Rattle.command.specs.declared.Command.the-variants as cmd
-use Rattle.state.specs.State.{songAt, withPlaying, toPassive}
+use Rattle.command.specs.declared.Message.{Message}
+use Rattle.command.proofs.CommandTableLaws.{alike}
+use Rattle.command.proofs.CommandsProved.{data-column}
+use Rattle.state.specs.State.{songAt, withPartial, withPlaying, toPassive}
 use Rattle.state.specs.Accepted.{acceptedOf}
 use Rattle.state.specs.declared.State.{State}
-use Rattle.board.specs.Outcome.{gives}
+use Rattle.state.proofs.RecordProved.{accepted-exactly, accepted-stays}
+use Rattle.board.specs.Outcome.{Outcome, gives}
 use Rattle.board.specs.Judge.{nothing, statusOf, effectOf, judgeOf}
 use Rattle.board.specs.Calls.{fedOf, byteOf, intoCliff, reportOf, chunkNow, songEndOf, runOf}
-use Rattle.board.specs.Rules.{Does, EffectColumn, NumberColumn, FittedRight, StatusRight, ByteRight, RunRight, ReportRight, TickRight, RulesRight}
+use Rattle.board.specs.Rules.{Does, EffectColumn, NumberColumn, FittedRight, StatusRight, ByteRight, RunRight, ReportRight, TickRight, demoHeld, demoGives, DemoRight, RulesRight}
 use Rattle.board.proofs.JudgeLaws.{judge-mode, judge-data}
 use Rattle.board.proofs.CallsLaws.{byte-eight, byte-accepted, tick-off, tick-silent, tick-chunk}
 
@@ -41,7 +56,7 @@ effect-column p =
       safe = does cmd.Safe p refl refl;
       full = does cmd.Full p refl refl;
       power = does cmd.Power p refl refl;
-      demo = does cmd.Demo p refl refl;
+      demo = λ number. does (cmd.Demo number) p refl refl;
       spot = does cmd.Spot p refl refl;
       cover = does cmd.Cover p refl refl;
       dock = does cmd.Dock p refl refl;
@@ -136,6 +151,71 @@ module _ (s : State) (t : T (acceptedOf s)) where
   unfolding songEndOf
   song-end-right = simp accepted
 
+-- ---- a Demo's two bytes
+
+-- a named mode but Off is one of P S F
+demo-modes : (m : ℕ) → m ≤ 3 → among (1 ∷ 2 ∷ 3 ∷ []) m ≡ not (eqb m 0)
+demo-modes m h =
+    let same : ℕ → Bool = λ k. Bool·beq (among (1 ∷ 2 ∷ 3 ∷ []) k) (not (eqb k 0)) in
+    beq-eq (among (1 ∷ 2 ∷ 3 ∷ []) m) (not (eqb m 0)) (from same 0 4 tt m zero-le (omega arith))
+
+-- -1 to 9 as a signed byte, by one test over all bytes
+demo-bytes : (b : ℕ) → b < 256 → (leZ (minus 1) (read8Of b) && leZ (read8Of b) (pos 9)) ≡ (eqb b 255 || leb b 9)
+demo-bytes = alike (λ b. leZ (minus 1) (read8Of b) && leZ (read8Of b) (pos 9)) (λ b. eqb b 255 || leb b 9) tt
+
+module _ (s : State) (h : s .mode ≤ 3) (b : ℕ) (k : b < 256) (p image : List ℕ) (room : ℕ) where
+  abbrev demo : Message
+  demo = message (cmd.Demo (read8Of b)) p
+
+  in-mode : allowedOf (cmd.Demo (read8Of b)) (s .mode) ≡ not (eqb (s .mode) 0)
+  unfolding rowOf allowedOf
+  in-mode = demo-modes (s .mode) h
+
+  is-legal : legalOf demo ≡ (eqb b 255 || leb b 9)
+  is-legal = data-column .demo-legal (read8Of b) p ∙ demo-bytes b k
+
+  demo-judged : judgeOf s demo image room ≡ demoGives b s
+  demo-judged = go (eqb (s .mode) 0) (eqb b 255 || leb b 9) refl refl
+    where
+      go : (m l : Bool) → eqb (s .mode) 0 ≡ m → (eqb b 255 || leb b 9) ≡ l → judgeOf s demo image room ≡ demoGives b s
+      go true l e f = judge-mode s demo image room refl (in-mode ∙ ap not e) ∙ sym (simp e)
+      go false true e f = does (cmd.Demo (read8Of b)) p refl refl s image room (in-mode ∙ ap not e) (is-legal ∙ f) ∙ sym (simp (e, f))
+      go false false e f = judge-data s demo image room refl (in-mode ∙ ap not e) (is-legal ∙ f) ∙ sym (simp (e, f))
+
+module _ (s : State) (t : T (acceptedOf s)) (e : s .partial ≡ emptyPartial) (image : List ℕ) (room : ℕ) where
+  empty : withPartial emptyPartial s ≡ s
+  empty = ap (λ (p : Partial). withPartial p s) (sym e)
+
+  held : T (acceptedOf (withPartial demoHeld s))
+  unfolding dataLength bodySizeAs reachableOf
+  held = accepted-stays s t .partial-kept demoHeld tt
+
+  opcode-waits : byteOf s 136 image room ≡ gives 9 (withPartial demoHeld s)
+  unfolding dataLength bodySizeAs
+  opcode-waits = byte-right s t 136 image room .waits (rw e refl) ∙ rw e refl
+
+  number : (b : ℕ) → b < 256 → byteOf (withPartial demoHeld s) b image room ≡ demoGives b s
+  unfolding dataLength commandOf decodeOf
+  number b h =
+      let m = message (cmd.Demo (read8Of b)) (replicate 32 0) in
+      byte-right (withPartial demoHeld s) held b image room .judged refl ∙ ap (λ (x : State). judgeOf x m image room) empty
+      ∙ demo-judged s (accepted-exactly .tells s t .1 .mode-is) b h (replicate 32 0) image room
+
+  four-or-three : (off : Bool) → cond off (gives 3 s) (gives 4 s) .number ≡ cond off 3 4
+  four-or-three true = refl
+  four-or-three false = refl
+
+  demo-right : DemoRight s image room
+  unfolding dataLength waits
+  demo-right =
+      record {
+        opcode-waits = opcode-waits;
+        held-accepted = held;
+        number = number;
+        named = refl;
+        before-named = ap (λ (o : Outcome). o .number) (number 128 (omega arith)) ∙ four-or-three (eqb (s .mode) 0);
+      }
+
 pub rules-right : RulesRight
 rules-right =
     record {
@@ -147,5 +227,6 @@ rules-right =
       run-right = run-right;
       report-right = report-right;
       tick-right = tick-right;
+      demo-right = demo-right;
       song-end-right = song-end-right;
     }

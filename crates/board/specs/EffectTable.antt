@@ -6,7 +6,7 @@ use mathlib.Core.List.{List, [], _∷_, map, flatten}
 use Prim.Native.Nat.{ℕ}
 use lib.IntN.{pos}
 use lib.ListN.{length, replicate}
-use Rattle.wire.specs.Lists.{all, span, among, padded}
+use Rattle.wire.specs.Lists.{all, span, fromTo, among, padded}
 use Rattle.wire.specs.Sixteen.{minus}
 use Rattle.command.specs.Layout.{decodeOf}
 use Rattle.state.specs.State.{withMode, withWheels, withDuties, withBaud, withLeds, withOutputs, withInfrared, withSong, withSelected, withPlaying, withList, withStreaming}
@@ -66,14 +66,15 @@ row modes es = record { modes = modes; entries = es }
 abbrev pub song : ℕ → List ℕ → Song
 song n notes = record { len = n; notes = padded 32 notes }
 
--- document 01's rows, in its order. Modes are 0 Off, 1 Passive, 2 Safe, 3 Full; the image's byte at place k is 100 + k.
+-- document 01's rows, in its order; 136 has the row that document 02's request One gives it. Modes are 0 Off, 1 Passive, 2 Safe, 3 Full; the image's byte at place k is 100 + k.
 abbrev pub effectTable : List EffectRow
 effectTable =
     row (0 ∷ 1 ∷ 2 ∷ 3 ∷ []) (stopping 128 (nothingSet [] ∷ []) ∷ [])
     ∷ row (1 ∷ 2 ∷ 3 ∷ []) (stopping 129 (setting (0 ∷ []) (withBaud 0) ∷ setting (11 ∷ []) (withBaud 11) ∷ []) ∷ [])
     ∷ row (1 ∷ []) (turns 130 2 ∷ [])
     ∷ row (1 ∷ 2 ∷ 3 ∷ []) (turns 131 2 ∷ turns 132 3 ∷ [])
-    ∷ row (2 ∷ 3 ∷ []) (map (λ op. stopping op (nothingSet [] ∷ [])) (133 ∷ 136 ∷ []))
+    ∷ row (2 ∷ 3 ∷ []) (stopping 133 (nothingSet [] ∷ []) ∷ [])
+    ∷ row (1 ∷ 2 ∷ 3 ∷ []) (stopping 136 (map (λ number. nothingSet (number ∷ [])) (255 ∷ fromTo 0 9)) ∷ [])
     ∷ row (1 ∷ 2 ∷ 3 ∷ []) (map (λ op. stopping op (nothingSet [] ∷ [])) (134 ∷ 135 ∷ 143 ∷ []))
     ∷ row (2 ∷ 3 ∷ [])
     (staying 137

@@ -5,12 +5,14 @@ use mathlib.Core.Path.{_≡_}
 use mathlib.Core.Bool.{Bool, true, false, cond, _&&_, _||_}
 use mathlib.Core.List.{List, [], _∷_}
 use Prim.Native.Nat.{ℕ, _+_, _/_, _%_, _≤_, _<_}
-use lib.Dec.{T, eqb}
+use lib.Dec.{T, leb, eqb}
 use lib.IntN.{ℤ, pos}
 use lib.Signed.{ltZ}
 use lib.ListN.{length, take}
 use Rattle.wire.specs.Sixteen.{minus}
-use Rattle.frame.specs.Push.{pushOf, emptyPartial}
+use Rattle.frame.specs.Push.{pushOf, stored, emptyPartial}
+use Rattle.frame.specs.RunTable.{waits}
+use Rattle.frame.specs.declared.Partial.{Partial}
 use Rattle.packet.specs.Packets.{answerBytes, chunkBytes}
 use Rattle.packet.specs.declared.Status.{Status}
 use Rattle.command.specs.Layout.{refusalOf, decodeOf}
@@ -22,7 +24,7 @@ use Rattle.command.specs.declared.Message.{Message}
 use Rattle.state.specs.State.{songAt, withMode, withPartial, withWheels, withDuties, withBaud, withLeds, withOutputs, withInfrared, withSong, withSelected, withPlaying, withList, withStreaming, toPassive}
 use Rattle.state.specs.Accepted.{acceptedOf}
 use Rattle.state.specs.declared.State.{State}
-use Rattle.board.specs.Outcome.{gives, answers, fitted}
+use Rattle.board.specs.Outcome.{Outcome, gives, answers, fitted}
 use Rattle.board.specs.Judge.{statusOf, judgeOf}
 use Rattle.board.specs.Calls.{byteOf, reportOf, tickOf, songEndOf, performed, runOf}
 
@@ -46,7 +48,7 @@ pub record EffectColumn (p : List ℕ) : Type 0 where
   pub safe : Does cmd.Safe p (withMode 2)
   pub full : Does cmd.Full p (withMode 3)
   pub power : Does cmd.Power p toPassive
-  pub demo : Does cmd.Demo p toPassive
+  pub demo : (number : ℤ) → Does (cmd.Demo number) p toPassive
   pub spot : Does cmd.Spot p toPassive
   pub cover : Does cmd.Cover p toPassive
   pub dock : Does cmd.Dock p toPassive
@@ -150,6 +152,25 @@ pub record TickRight (s : State) (image : List ℕ) (room : ℕ) : Type 0 where
   pub chunk : (s .mode ≡ 0 → ⊥) → s .stream .on ≡ true → 0 < s .stream .count
       → tickOf s image room ≡ fitted (chunkBytes (statusOf s) image (take (s .stream .count) (s .stream .ids))) room s
 
+-- ---- document 02, One: Demo takes a number
+
+-- 136 has come, and its number is owed
+abbrev pub demoHeld : Partial
+demoHeld = stored (136 ∷ []) 1
+
+-- what the number gives: 3 in Off; of 255, which is -1, and of 0 to 9 Passive, stop; 4 of any other
+abbrev pub demoGives : ℕ → State → Outcome
+demoGives b s = cond (eqb (s .mode) 0) (gives 3 s) (cond (eqb b 255 || leb b 9) (gives 0 (toPassive s)) (gives 4 s))
+
+-- THEOREM: both bytes, from a record that holds nothing
+pub record DemoRight (s : State) (image : List ℕ) (room : ℕ) : Type 0 where
+  pub opcode-waits : byteOf s 136 image room ≡ gives 9 (withPartial demoHeld s)
+  pub held-accepted : T (acceptedOf (withPartial demoHeld s))
+  pub number : (b : ℕ) → b < 256 → byteOf (withPartial demoHeld s) b image room ≡ demoGives b s
+  -- so byte 2 of a run of 128s is the first that is read as an opcode, and the one before it gives 4, and 3 in Off
+  pub named : waits demoHeld ≡ 1
+  pub before-named : byteOf (withPartial demoHeld s) 128 image room .number ≡ cond (eqb (s .mode) 0) 3 4
+
 -- THEOREM: the rules
 pub record RulesRight : Type 0 where
   pub effect-column : (p : List ℕ) → EffectColumn p
@@ -160,5 +181,6 @@ pub record RulesRight : Type 0 where
   pub run-right : (s : State) → T (acceptedOf s) → (image : List ℕ) (room : ℕ) → RunRight s image room
   pub report-right : (s : State) → T (acceptedOf s) → ReportRight s
   pub tick-right : (s : State) → T (acceptedOf s) → (image : List ℕ) (room : ℕ) → TickRight s image room
+  pub demo-right : (s : State) → T (acceptedOf s) → s .partial ≡ emptyPartial → (image : List ℕ) (room : ℕ) → DemoRight s image room
   -- a song end only clears playing
   pub song-end-right : (s : State) → T (acceptedOf s) → songEndOf s ≡ gives 0 (withPlaying false s)

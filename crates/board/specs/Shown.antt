@@ -254,6 +254,9 @@ abbrev illegalCases : List ByteCase
 illegalCases =
     map (λ bs. refusing (ready 2) (waiting (take (length bs - 1) bs) (getD bs (length bs - 1) 0 giving 4)))
     ((129 ∷ 12 ∷ [])
+    ∷ (136 ∷ 10 ∷ [])
+    ∷ (136 ∷ 128 ∷ [])
+    ∷ (136 ∷ 254 ∷ [])
     ∷ (137 ∷ 1 ∷ 245 ∷ 0 ∷ 1 ∷ [])
     ∷ (137 ∷ 0 ∷ 100 ∷ 0 ∷ 0 ∷ [])
     ∷ (137 ∷ 0 ∷ 100 ∷ 7 ∷ 209 ∷ [])
@@ -295,6 +298,11 @@ judgedCases =
     -- the mode is asked before the data
     ∷ refusing (ready 1) (waiting (137 ∷ 127 ∷ 255 ∷ 0 ∷ []) (0 giving 3))
     ∷ refusing (ready 1) (142 giving 9 ∷ 43 giving 4 ∷ [])
+    -- a Demo's number is read with it, in Passive too
+    ∷ feeding (ready 1) (136 giving 9 ∷ 255 giving 0 ∷ []) (ready 1)
+    ∷ feeding (ready 2) (136 giving 9 ∷ 0 giving 0 ∷ []) (halted (ready 2))
+    ∷ feeding (singing (ready 3)) (136 giving 9 ∷ 9 giving 0 ∷ []) (halted (singing (ready 3)))
+    ∷ refusing (ready 0) (136 giving 9 ∷ 9 giving 3 ∷ [])
     -- no room for a list
     ∷ answering (ready 1) 3 (waiting (149 ∷ 2 ∷ 29 ∷ []) (29 giving 7)) []
     -- duties of 128; all three drivers
@@ -354,6 +362,9 @@ otherCases =
     ∷ from (ready 0)
     (running (128 ∷ 131 ∷ 129 ∷ 12 ∷ []) 0 1 ∷ running (131 ∷ 129 ∷ 12 ∷ []) 0 1 ∷ running (129 ∷ 12 ∷ []) 4 2 ∷ [])
     (withMode 2 (ready 0))
+    -- of a half-read Demo byte 2 of a run of 128s is the first that is read as an opcode
+    ∷ from (withPartial (stored (136 ∷ []) 1) (ready 3)) (running (128 ∷ 128 ∷ []) 4 1 ∷ running (128 ∷ []) 0 1 ∷ []) (halted (ready 3))
+    ∷ from (withPartial (stored (136 ∷ []) 1) (ready 0)) (running (128 ∷ 128 ∷ []) 3 1 ∷ running (128 ∷ []) 0 1 ∷ []) (withMode 1 (ready 0))
     -- a safety stop keeps the half-read Drive, which is judged at its last byte
     ∷ from (ready 2) (running (137 ∷ 255 ∷ []) 9 2 ∷ reporting true false false ∷ []) (withPartial (stored (137 ∷ 255 ∷ []) 3) (halted (ready 2)))
     ∷ from (ready 2)

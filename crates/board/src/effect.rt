@@ -215,7 +215,7 @@ pub fn effect(state: State, message: Message) -> State
         Command::Safe => with_mode(state, command::SAFE),
         Command::Full => with_mode(state, command::FULL),
         Command::Power => to_passive(state),
-        Command::Demo => to_passive(state),
+        Command::Demo(_) => to_passive(state),
         Command::Spot => to_passive(state),
         Command::Cover => to_passive(state),
         Command::Dock => to_passive(state),

@@ -68,7 +68,7 @@ pub fn part_from(text: &[u8], from: usize, limit: usize, number: usize) -> Part 
             ok: true,
         };
     }
-    let read = signed_from(text, from, number);
+    let read = signed_from(text, from, number, 32767);
     let value = read.value;
     let bits = wide(wire::high16(value)) * 256 + wide(wire::low16(value));
     let fits = bits < limit;

@@ -15,6 +15,7 @@ use mir.Val.{SFits, toZ, ofZ}
 use mir.ValLaws.{toZ-ofZ}
 use borrow.Author.Tests.{le-leb, lt-leb, ne-eqb}
 use Rattle.wire.specs.Lists.{all, allFrom, among, within, isByte, allBytes}
+use Rattle.wire.specs.Sixteen.{minus}
 use Rattle.wire.proofs.BoolLaws.{is-true, beq-eq, or-none, le-or-lt}
 use Rattle.wire.proofs.ListsLaws.{from, all-take}
 use Rattle.packet.specs.Answers.{listableOf, streamableOf}
@@ -22,7 +23,7 @@ use Rattle.command.specs.Layout.{valueOf, formOf, opcodeOf, refusalOf, s
 use Rattle.command.specs.CommandTable.{Range, _to_, isIn, isLegal, upTo, speed, radius, allLegal, commandTable, noRow, rowFor, rowOf, allowedOf, legalOf}
 use Rattle.command.specs.Commands.{message, isSpeed, isRadius}
 use Rattle.command.specs.declared.Command.{Command}
-use Rattle.command.specs.declared.Command.the-variants.{Drive, Direct, Duties, Leds, Song, QueryList, Stream}
+use Rattle.command.specs.declared.Command.the-variants.{Demo, Drive, Direct, Duties, Leds, Song, QueryList, Stream}
 use Rattle.command.specs.declared.Message.{Message}
 use Rattle.command.proofs.VariantLaws.{every}
 use Rattle.command.proofs.LayoutLaws.{stored-all}
@@ -139,6 +140,10 @@ unfolding isIn isLegal
 radius-is (pos zero) = refl
 radius-is (pos (suc n)) = simp (le-leb 1 (suc n) (omega arith), lt-leb (suc n) 0 (omega arith), leb·zero (suc n), and-true, or-none)
 radius-is (negsuc n) = simp (leb·zero n, and-true, or-none)
+
+pub demo-tested : (v : ℤ) (p : List ℕ) → legalOf (message (Demo v) p) ≡ isIn (minus 1 to pos 9) v
+unfolding isLegal rowOf legalOf
+demo-tested v p = simp (and-true, or-none)
 
 pub drive-legal : (v r : ℤ) (p : List ℕ) → legalOf (message (Drive v r) p) ≡ (isSpeed v && isRadius r)
 drive-legal v r p = drive-tested v r p ∙ ap₂ _&&_ (speed-is v) (radius-is r)

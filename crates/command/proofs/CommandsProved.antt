@@ -27,7 +27,7 @@ use Rattle.command.specs.declared.Command.{Command}
 use Rattle.command.specs.declared.Message.{Message}
 use Rattle.command.proofs.VariantLaws.{every}
 use Rattle.command.proofs.LayoutLaws.{stored-none, small, says}
-use Rattle.command.proofs.CommandTableLaws.{no-other-mode, by-opcode, alike, drive-legal, direct-legal, duties-legal, leds-legal, song-is, query-legal, stream-legal, unused-free}
+use Rattle.command.proofs.CommandTableLaws.{no-other-mode, by-opcode, alike, demo-tested, drive-legal, direct-legal, duties-legal, leds-legal, song-is, query-legal, stream-legal, unused-free}
 use Rattle.command.proofs.RoundTripLaws.{frame-bytes, written-complete, written-read, spelled, head-kept, rewritten}
 
 pub commands-in-numbers : CommandsInNumbers
@@ -57,9 +57,10 @@ mode-column =
     }
 
 pub data-column : DataColumn
-unfolding rowOf legalOf
+unfolding isIn rowOf legalOf
 data-column =
     record {
+      demo-legal = demo-tested;
       drive-legal = drive-legal;
       direct-legal = direct-legal;
       duties-legal = duties-legal;

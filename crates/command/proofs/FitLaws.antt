@@ -3,19 +3,21 @@
 use mathlib.Core.Bool.{Bool, true, _&&_}
 use mathlib.Core.List.{List, [], _∷_, map}
 use mathlib.Core.Logic.{⊎-elim}
-use Prim.Native.Nat.{ℕ, _<_}
+use Prim.Native.Nat.{ℕ, _≤_, _<_}
 use native.Mathlib.Omega.{arith}
 use lib.Dec.{T, leb→le}
 use lib.IntN.{ℤ, pos, negsuc}
 use lib.ListN.{getD}
-use lib.Signed.{leZ}
+use lib.Signed.{leZ, mag}
 use mir.Facts.{and-yes, or-yes, yes-and, yes-ltb}
-use mir.Syntax.{w16}
+use mir.Syntax.{w8, w16}
 use mir.Val.{SFits}
 use Rattle.wire.specs.Lists.{all, isByte, allBytes}
+use Rattle.wire.specs.Signed.{bits8Of}
 use Rattle.wire.proofs.ListsLaws.{all-append}
+use Rattle.wire.proofs.SignedLaws.{round-trip-bits}
 use Rattle.wire.proofs.SixteenLaws.{round-trip16}
-use Rattle.command.specs.Layout.{Item, byte, word, valueOf, sentAs, allSent, formOf, payloadIn}
+use Rattle.command.specs.Layout.{Item, byte, signedByte, word, valueOf, sentAs, allSent, formOf, payloadIn}
 use Rattle.command.specs.CommandTable.{Range, isIn, isLegal, allLegal, rowOf, legalOf}
 use Rattle.command.specs.declared.Command.{Command}
 use Rattle.command.specs.declared.Message.{Message}
@@ -23,22 +25,22 @@ use Rattle.command.proofs.VariantLaws.{every}
 
 -- ---- a number in a range
 
--- the range is one of bytes, or of sixteen-bit numbers
+-- the range is one of bytes, or of the numbers of a width with a sign
 abbrev ofBytes : Range → Bool
 ofBytes r = leZ (r .last) (pos 255)
 
-abbrev ofWords : Range → Bool
-ofWords r = leZ (negsuc 32767) (r .first) && leZ (r .last) (pos 32767)
+abbrev ofSigned : ℕ → Range → Bool
+ofSigned most r = leZ (negsuc most) (r .first) && leZ (r .last) (pos most)
 
 byte-below : (n : ℕ) (z : ℤ) → T (leZ z (pos 255)) → T (leZ (pos n) z) → n < 256
 byte-below n (pos k) t u = let a = leb→le k 255 t in let b = leb→le n k u in omega arith
 byte-below n (negsuc k) t u = absurd u
 
-word-fits : (v a b : ℤ) → T (leZ (negsuc 32767) a) → T (leZ b (pos 32767)) → T (leZ a v) → T (leZ v b) → SFits w16 v
-word-fits (pos n) a (pos k) t u x y = let p = leb→le k 32767 u in let q = leb→le n k y in record { sfits = omega arith }
-word-fits (pos n) a (negsuc k) t u x y = absurd y
-word-fits (negsuc n) (pos k) b t u x y = absurd x
-word-fits (negsuc n) (negsuc k) b t u x y = let p = leb→le k 32767 t in let q = leb→le n k x in record { sfits = omega arith }
+signed-fits : (most : ℕ) (v a b : ℤ) → T (leZ (negsuc most) a) → T (leZ b (pos most)) → T (leZ a v) → T (leZ v b) → mag v ≤ most
+signed-fits most (pos n) a (pos k) t u x y = let p = leb→le k most u in let q = leb→le n k y in omega arith
+signed-fits most (pos n) a (negsuc k) t u x y = absurd y
+signed-fits most (negsuc n) (pos k) b t u x y = absurd x
+signed-fits most (negsuc n) (negsuc k) b t u x y = let p = leb→le k most t in let q = leb→le n k x in omega arith
 
 module _ (n : ℕ) where
   legal-byte : (rs : List Range) → T (all ofBytes rs) → T (isLegal rs (pos n)) → n < 256
@@ -49,15 +51,16 @@ module _ (n : ℕ) where
       ⊎-elim (λ x. byte-below n (r .last) (s .0) (and-yes (leZ (r .first) (pos n)) (leZ (pos n) (r .last)) x .1)) (λ x. legal-byte rs (s .1) x)
       (or-yes (isIn r (pos n)) (isLegal rs (pos n)) u)
 
-module _ (v : ℤ) where
-  legal-word : (rs : List Range) → T (all ofWords rs) → T (isLegal rs v) → SFits w16 v
+module _ (most : ℕ) (v : ℤ) where
+  legal-signed : (rs : List Range) → T (all (ofSigned most) rs) → T (isLegal rs v) → mag v ≤ most
   unfolding isIn isLegal
-  legal-word [] t u = absurd u
-  legal-word (r ∷ rs) t u =
-      let s = and-yes (ofWords r) (all ofWords rs) t in
-      let w = and-yes (leZ (negsuc 32767) (r .first)) (leZ (r .last) (pos 32767)) (s .0) in
-      ⊎-elim (λ x. let y = and-yes (leZ (r .first) v) (leZ v (r .last)) x in word-fits v (r .first) (r .last) (w .0) (w .1) (y .0) (y .1))
-      (λ x. legal-word rs (s .1) x)
+  legal-signed [] t u = absurd u
+  legal-signed (r ∷ rs) t u =
+      let s = and-yes (ofSigned most r) (all (ofSigned most) rs) t in
+      let w = and-yes (leZ (negsuc most) (r .first)) (leZ (r .last) (pos most)) (s .0) in
+      ⊎-elim
+      (λ x. let y = and-yes (leZ (r .first) v) (leZ v (r .last)) x in signed-fits most v (r .first) (r .last) (w .0) (w .1) (y .0) (y .1))
+      (λ x. legal-signed rs (s .1) x)
       (or-yes (isIn r v) (isLegal rs v) u)
 
 -- ---- the numbers of a command
@@ -66,6 +69,7 @@ module _ (v : ℤ) where
 abbrev pub Fit : List Item → Type 0
 Fit [] = Unit {0}
 Fit (byte n ∷ is) = (n < 256) × Fit is
+Fit (signedByte v ∷ is) = SFits w8 v × Fit is
 Fit (word v ∷ is) = SFits w16 v × Fit is
 
 -- the ranges are of their items' kinds
@@ -73,7 +77,8 @@ abbrev kinds : List (List Range) → List Item → Bool
 kinds [] is = true
 kinds (rs ∷ rss) [] = true
 kinds (rs ∷ rss) (byte n ∷ is) = all ofBytes rs && kinds rss is
-kinds (rs ∷ rss) (word v ∷ is) = all ofWords rs && kinds rss is
+kinds (rs ∷ rss) (signedByte v ∷ is) = all (ofSigned 127) rs && kinds rss is
+kinds (rs ∷ rss) (word v ∷ is) = all (ofSigned 32767) rs && kinds rss is
 
 legal-fit : (rss : List (List Range)) (is : List Item) → T (kinds rss is) → T (allLegal rss (map valueOf is)) → Fit is
 legal-fit [] [] t u = tt
@@ -83,10 +88,16 @@ legal-fit (rs ∷ rss) (byte n ∷ is) t u =
     let s = and-yes (all ofBytes rs) (kinds rss is) t in
     let x = and-yes (isLegal rs (pos n)) (allLegal rss (map valueOf is)) u in
     (legal-byte n rs (s .0) (x .0), legal-fit rss is (s .1) (x .1))
-legal-fit (rs ∷ rss) (word v ∷ is) t u =
-    let s = and-yes (all ofWords rs) (kinds rss is) t in
+legal-fit (rs ∷ rss) (signedByte v ∷ is) t u =
+    let s = and-yes (all (ofSigned 127) rs) (kinds rss is) t in
     let x = and-yes (isLegal rs v) (allLegal rss (map valueOf is)) u in
-    (legal-word v rs (s .0) (x .0), legal-fit rss is (s .1) (x .1))
+    let h = legal-signed 127 v rs (s .0) (x .0) in
+    (record { sfits = omega arith }, legal-fit rss is (s .1) (x .1))
+legal-fit (rs ∷ rss) (word v ∷ is) t u =
+    let s = and-yes (all (ofSigned 32767) rs) (kinds rss is) t in
+    let x = and-yes (isLegal rs v) (allLegal rss (map valueOf is)) u in
+    let h = legal-signed 32767 v rs (s .0) (x .0) in
+    (record { sfits = omega arith }, legal-fit rss is (s .1) (x .1))
 
 -- of every row, by one test over the variants
 all-kinds : (c : Command) → T (kinds (rowOf c .legal .numbers) (formOf c .items))
@@ -105,6 +116,9 @@ numbers-fit m t =
 pub sent-bytes : (is : List Item) → Fit is → T (allBytes (allSent is))
 sent-bytes [] f = tt
 sent-bytes (byte n ∷ is) f = yes-and (isByte n) (allBytes (allSent is)) (yes-ltb (f .0)) (sent-bytes is (f .1))
+sent-bytes (signedByte v ∷ is) f =
+    let h = round-trip-bits 128 .bits-fit v (f .0 .sfits) in
+    yes-and (isByte (bits8Of v)) (allBytes (allSent is)) (yes-ltb h) (sent-bytes is (f .1))
 sent-bytes (word v ∷ is) f =
     let h = round-trip16 .high-byte v (f .0) in
     let l = round-trip16 .low-byte v in

@@ -12,9 +12,11 @@ use lib.Seq.{length-take-le, getD-take, take-at, take-append-seam, drop-append-s
 use mir.Facts.{and-yes, yes-and}
 use borrow.Author.Tests.{le-leb, eqb-true}
 use Rattle.wire.specs.Lists.{span, within, snoc, padded, isByte, allBytes}
+use Rattle.wire.specs.Signed.{bits8Of, read8Of}
 use Rattle.wire.specs.Sixteen.{be16, read16Of}
 use Rattle.wire.proofs.BoolLaws.{to-T}
 use Rattle.wire.proofs.ListsLaws.{take-span, all-append, all-take, getD-zeros, byte-at, zeros-from}
+use Rattle.wire.proofs.SignedLaws.{round-trip-bits}
 use Rattle.wire.proofs.SixteenLaws.{round-trip16}
 use Rattle.frame.specs.FrameTable.{dataLength, headerSize}
 use Rattle.frame.specs.Push.{frameSizeAs, storesBodyAs, lengthOf, headerOf, frameSize, storesBody}
@@ -72,7 +74,7 @@ laid Control p f t = laid-as tt (λ r. refl) (λ r. refl) (λ r. refl)
 laid Safe p f t = laid-as tt (λ r. refl) (λ r. refl) (λ r. refl)
 laid Full p f t = laid-as tt (λ r. refl) (λ r. refl) (λ r. refl)
 laid Power p f t = laid-as tt (λ r. refl) (λ r. refl) (λ r. refl)
-laid Demo p f t = laid-as tt (λ r. refl) (λ r. refl) (λ r. refl)
+laid (Demo number) p f t = laid-as tt (λ r. ap Demo (round-trip-bits 128 .read-written number (f .0 .sfits))) (λ r. refl) (λ r. refl)
 laid Spot p f t = laid-as tt (λ r. refl) (λ r. refl) (λ r. refl)
 laid Cover p f t = laid-as tt (λ r. refl) (λ r. refl) (λ r. refl)
 laid Dock p f t = laid-as tt (λ r. refl) (λ r. refl) (λ r. refl)
@@ -230,6 +232,10 @@ module _ (bytes : List ℕ) (t : T (allBytes bytes)) where
       → length (headOf (told r)) ≡ least (dataLength (r .opcode)) → Spells r
   plain p q s = record { it = record { opcode = p; sent = q; shortest = λ z. s } }
 
+  -- a signed byte
+  signed-byte : bits8Of (read8Of (d 1)) ∷ [] ≡ d 1 ∷ []
+  signed-byte = ap (λ (n : ℕ). n ∷ []) (round-trip-bits 128 .written-read (d 1) (byte-at bytes t 1))
+
   -- two sixteen-bit numbers
   words : be16 (read16Of (d 1) (d 2)) ++ (be16 (read16Of (d 3) (d 4)) ++ []) ≡ d 1 ∷ d 2 ∷ d 3 ∷ d 4 ∷ []
   words =
@@ -250,7 +256,7 @@ module _ (bytes : List ℕ) (t : T (allBytes bytes)) where
 
   spelled-1 : Each (five 1)
   unfolding dataLength
-  spelled-1 = (plain refl refl refl, (plain refl refl refl, (plain refl refl refl, (plain refl refl refl, (plain refl refl refl, tt)))))
+  spelled-1 = (plain refl refl refl, (plain refl signed-byte refl, (plain refl refl refl, (plain refl refl refl, (plain refl refl refl, tt)))))
 
   spelled-2 : Each (five 2)
   unfolding dataLength

@@ -21,7 +21,7 @@ use Rattle.command.proofs.Command.{the-type}
 module _ (a b d : ℕ) (v w : ℤ) where
   abbrev variants : List Command
   variants =
-      Start ∷ Baud a ∷ Control ∷ Safe ∷ Full ∷ Power ∷ Demo ∷ Spot ∷ Cover ∷ Dock ∷ Drive v w ∷ Direct v w ∷ Drivers a ∷ Duties a b d ∷ Leds a b d
+      Start ∷ Baud a ∷ Control ∷ Safe ∷ Full ∷ Power ∷ Demo v ∷ Spot ∷ Cover ∷ Dock ∷ Drive v w ∷ Direct v w ∷ Drivers a ∷ Duties a b d ∷ Leds a b d
       ∷ Outputs a ∷ Infrared a ∷ Song a b ∷ Play a ∷ Sensors a ∷ QueryList a ∷ Stream a ∷ Pause a ∷ Unknown a ∷ NotOffered a ∷ []
 
   abbrev pub variant : ℕ → Command
@@ -51,7 +51,7 @@ shape Control = bytes 0 0 0 refl tt
 shape Safe = bytes 0 0 0 refl tt
 shape Full = bytes 0 0 0 refl tt
 shape Power = bytes 0 0 0 refl tt
-shape Demo = bytes 0 0 0 refl tt
+shape (Demo v) = shaped 0 0 0 v (pos 0) refl tt
 shape Spot = bytes 0 0 0 refl tt
 shape Cover = bytes 0 0 0 refl tt
 shape Dock = bytes 0 0 0 refl tt

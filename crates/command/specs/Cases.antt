@@ -1,7 +1,7 @@
 -- Commands in numbers: what frames say, which modes they are for, and which data are legal. What the cases expect is written out, and cites no row,
 -- no form and no range of the rules.
 -- Assumes nothing.
-use mathlib.Core.Bool.{Bool, true, false, not, cond, _&&_, Bool·beq}
+use mathlib.Core.Bool.{Bool, true, false, not, cond, _&&_, _||_, Bool·beq}
 use mathlib.Core.List.{List, [], _∷_, _++_, map}
 use Prim.Native.Nat.{ℕ, _*_}
 use lib.Dec.{leb, eqb}
@@ -43,7 +43,8 @@ frameCases =
     ∷ says (133 ∷ []) Power
     ∷ says (134 ∷ []) Spot
     ∷ says (135 ∷ []) Cover
-    ∷ says (136 ∷ []) Demo
+    ∷ says (136 ∷ 255 ∷ []) (Demo (minus 1))
+    ∷ says (136 ∷ 9 ∷ []) (Demo (pos 9))
     -- W3, W5
     ∷ says (137 ∷ 255 ∷ 56 ∷ 1 ∷ 244 ∷ []) (Drive (minus 200) (pos 500))
     ∷ says (137 ∷ 0 ∷ 100 ∷ 128 ∷ 0 ∷ []) (Drive (pos 100) (minus 32768))
@@ -83,7 +84,9 @@ otherCases =
     ∷ says (152 ∷ 2 ∷ []) (NotOffered 152)
     ∷ says (158 ∷ 7 ∷ []) (NotOffered 158)
     ∷ says (155 ∷ span 1 34) (NotOffered 155)
-    -- out of range, and read as they are: 32767, -501; a song number 16
+    -- out of range, and read as they are: a Demo's -128, 10; 32767, -501; a song number 16
+    ∷ says (136 ∷ 128 ∷ []) (Demo (minus 128))
+    ∷ says (136 ∷ 10 ∷ []) (Demo (pos 10))
     ∷ says (137 ∷ 127 ∷ 255 ∷ 254 ∷ 11 ∷ []) (Drive (pos 32767) (minus 501))
     ∷ saysWith (140 ∷ 16 ∷ 1 ∷ 60 ∷ 32 ∷ []) (Song 16 1) (60 ∷ 32 ∷ [])
     ∷ says (140 ∷ 0 ∷ 17 ∷ span 1 32) (Song 0 17)
@@ -99,7 +102,7 @@ refusalRight op =
     let expected : ℕ = cond (within 152 158 op) 2 (cond (within 128 151 op && not (eqb op 146)) 0 1) in
     eqb (refusalOf (commandOf (op ∷ []))) expected
 
--- document 01's opcodes, in the order of its rows
+-- the opcodes, in the order of document 01's rows
 abbrev pub rowOpcodes : List ℕ
 rowOpcodes =
     128 ∷ 129 ∷ 130 ∷ 131 ∷ 132 ∷ 133 ∷ 136 ∷ 134 ∷ 135 ∷ 143 ∷ 137 ∷ 145 ∷ 138 ∷ 144 ∷ 139 ∷ 147 ∷ 151 ∷ 140 ∷ 141 ∷ 142 ∷ 149 ∷ 148 ∷ 150 ∷ []
@@ -111,7 +114,7 @@ inSafeOrFull = 128 ∷ 129 ∷ (fromTo 131 145 ++ fromTo 147 151)
 abbrev opcodesIn : List (List ℕ)
 opcodesIn =
     (128 ∷ [])
-    ∷ (fromTo 128 132 ++ (134 ∷ 135 ∷ 140 ∷ 142 ∷ 143 ∷ 148 ∷ 149 ∷ 150 ∷ []))
+    ∷ (fromTo 128 132 ++ (134 ∷ 135 ∷ 136 ∷ 140 ∷ 142 ∷ 143 ∷ 148 ∷ 149 ∷ 150 ∷ []))
     ∷ inSafeOrFull
     ∷ inSafeOrFull
     ∷ []
@@ -125,19 +128,25 @@ modeRight op mode = Bool·beq (allowedOf (commandOf (op ∷ [])) mode) (among (g
 abbrev pub dataLegal : List ℕ → Bool
 dataLegal frame = legalOf (decodeOf (padded 35 frame))
 
--- of a command with one data byte, the bytes up to this one are legal
+-- of a command with one data byte, the bytes that are legal
 pub record ByteCase : Type 0 where
   pub opcode : ℕ
-  pub most : ℕ
+  pub legal : ℕ → Bool
 
+-- those up to this one
 abbrev legalTo : ℕ → ℕ → ByteCase
-legalTo op n = record { opcode = op; most = n }
+legalTo op n = record { opcode = op; legal = λ b. leb b n }
+
+-- 255, which is -1, and 0 to 9
+abbrev legalDemo : ByteCase
+legalDemo = record { opcode = 136; legal = λ b. eqb b 255 || leb b 9 }
 
 abbrev pub byteCases : List ByteCase
-byteCases = legalTo 129 11 ∷ legalTo 138 7 ∷ legalTo 147 7 ∷ legalTo 151 255 ∷ legalTo 141 15 ∷ legalTo 142 42 ∷ legalTo 150 1 ∷ []
+byteCases =
+    legalTo 129 11 ∷ legalDemo ∷ legalTo 138 7 ∷ legalTo 147 7 ∷ legalTo 151 255 ∷ legalTo 141 15 ∷ legalTo 142 42 ∷ legalTo 150 1 ∷ []
 
 abbrev pub byteRight : ByteCase → Bool
-byteRight c = allFrom (λ b. Bool·beq (dataLegal (c .opcode ∷ b ∷ [])) (leb b (c .most))) 0 256
+byteRight c = allFrom (λ b. Bool·beq (dataLegal (c .opcode ∷ b ∷ [])) (c .legal b)) 0 256
 
 -- these frames have legal data, or none of them has
 pub record DataCase : Type 0 where

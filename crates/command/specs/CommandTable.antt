@@ -1,4 +1,4 @@
--- The command table (document 01, 'Commands at their last byte'): which modes a command is for, and which data are legal.
+-- The command table (document 01, 'Commands at their last byte'; document 02, One): which modes a command is for, and which data are legal.
 -- Assumes nothing.
 use mathlib.Core.Bool.{Bool, true, false, cond, _&&_, _||_}
 use mathlib.Core.List.{List, [], _∷_, map}
@@ -99,14 +99,16 @@ entry op d = record { opcode = op; legal = d }
 abbrev row : List ℕ → List ℕ → LegalData → Row
 row ops modes d = record { entries = map (λ op. entry op d) ops; modes = modes }
 
--- document 01's rows, in its order
+-- document 01's rows, in its order; 136 has the row that request One gives it
 abbrev pub commandTable : List Row
 commandTable =
     row (128 ∷ []) allFour none
     ∷ row (129 ∷ []) PSF (ranges (upTo 11 ∷ []))
     ∷ row (130 ∷ []) P none
     ∷ row (131 ∷ 132 ∷ []) PSF none
-    ∷ row (133 ∷ 136 ∷ []) SF none
+    ∷ row (133 ∷ []) SF none
+    -- as a signed byte
+    ∷ row (136 ∷ []) PSF (ranges (((minus 1 to pos 9) ∷ []) ∷ []))
     ∷ row (134 ∷ 135 ∷ 143 ∷ []) PSF none
     -- velocity, radius
     ∷ row (137 ∷ []) SF (ranges (speed ∷ radius ∷ []))

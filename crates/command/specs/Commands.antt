@@ -20,7 +20,7 @@ use Rattle.command.specs.Layout.{opcodeOf, refusalOf, payloadSize, encod
 use Rattle.command.specs.CommandTable.{commandTable, allowedOf, legalOf, writeReply}
 use Rattle.command.specs.Cases.{longestSong, frameCases, otherCases, rowOpcodes, refusalRight, modeRight, byteCases, byteRight, dataCases, dataRight}
 use Rattle.command.specs.declared.Command.{Command}
-use Rattle.command.specs.declared.Command.the-variants.{Drive, Direct, Duties, Leds, Song, QueryList, Stream, Unknown, NotOffered}
+use Rattle.command.specs.declared.Command.the-variants.{Demo, Drive, Direct, Duties, Leds, Song, QueryList, Stream, Unknown, NotOffered}
 use Rattle.command.specs.declared.Message.{Message}
 
 -- THEOREM: commands in numbers
@@ -66,8 +66,10 @@ isSpeed v = leZ (minus 500) v && leZ v (pos 500)
 abbrev pub isRadius : ℤ → Bool
 isRadius r = (leZ (minus 2000) r && (leZ r (pos 2000) && not (is r (pos 0)))) || (is r (pos 32767) || is r (minus 32768))
 
--- THEOREM: the column of legal data, for every value of the commands with more than one data byte
+-- THEOREM: the column of legal data, for every value of the commands with a signed number or with more than one data byte
 pub record DataColumn : Type 0 where
+  -- -1 to 9
+  pub demo-legal : (number : ℤ) (p : List ℕ) → legalOf (message (Demo number) p) ≡ (leZ (minus 1) number && leZ number (pos 9))
   pub drive-legal : (velocity radius : ℤ) (p : List ℕ) → legalOf (message (Drive velocity radius) p) ≡ (isSpeed velocity && isRadius radius)
   pub direct-legal : (right left : ℤ) (p : List ℕ) → legalOf (message (Direct right left) p) ≡ (isSpeed right && isSpeed left)
   pub duties-legal : (a b d : ℕ) (p : List ℕ) → legalOf (message (Duties a b d) p) ≡ (leb a 128 && (leb b 128 && leb d 128))

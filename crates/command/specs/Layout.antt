@@ -1,4 +1,4 @@
--- A command as bytes: how it is sent, and what a whole frame says (document 01, 'Commands at their last byte').
+-- A command as bytes: how it is sent, and what a whole frame says (document 01, 'Commands at their last byte'; document 02, One).
 -- Assumes nothing.
 use mathlib.Core.Bool.{cond}
 use mathlib.Core.List.{List, [], _∷_, _++_}
@@ -7,6 +7,7 @@ use lib.Dec.{eqb}
 use lib.IntN.{ℤ, pos}
 use lib.ListN.{length, getD, take, drop}
 use Rattle.wire.specs.Lists.{within, padded}
+use Rattle.wire.specs.Signed.{bits8Of, read8Of}
 use Rattle.wire.specs.Sixteen.{be16, read16Of}
 use Rattle.frame.specs.Push.{legalCount}
 use Rattle.command.specs.declared.Command.{Command}
@@ -16,18 +17,21 @@ use Rattle.command.specs.declared.Head.{Head}
 
 -- ---- the form of a command
 
--- one of a command's numbers: a byte, or a word of sixteen bits
+-- one of a command's numbers: a byte, a signed byte, or a word of sixteen bits
 pub data Item : Type 0 where
   byte : ℕ → Item
+  signedByte : ℤ → Item
   word : ℤ → Item
 
 abbrev pub valueOf : Item → ℤ
 valueOf (byte n) = pos n
+valueOf (signedByte v) = v
 valueOf (word v) = v
 
 -- how it is sent
 abbrev pub sentAs : Item → List ℕ
 sentAs (byte n) = n ∷ []
+sentAs (signedByte v) = bits8Of v ∷ []
 sentAs (word v) = be16 v
 
 abbrev pub allSent : List Item → List ℕ
@@ -63,7 +67,7 @@ formOf Control = offered 130 []
 formOf Safe = offered 131 []
 formOf Full = offered 132 []
 formOf Power = offered 133 []
-formOf Demo = offered 136 []
+formOf (Demo number) = offered 136 (signedByte number ∷ [])
 formOf Spot = offered 134 []
 formOf Cover = offered 135 []
 formOf Dock = offered 143 []
@@ -131,7 +135,7 @@ readings =
     ∷ reads 131 (λ a b c d. Safe)
     ∷ reads 132 (λ a b c d. Full)
     ∷ reads 133 (λ a b c d. Power)
-    ∷ reads 136 (λ a b c d. Demo)
+    ∷ reads 136 (λ a b c d. Demo (read8Of a))
     ∷ reads 134 (λ a b c d. Spot)
     ∷ reads 135 (λ a b c d. Cover)
     ∷ reads 143 (λ a b c d. Dock)

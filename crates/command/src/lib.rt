@@ -1,11 +1,12 @@
-// What a whole frame says, and the host-side writer of commands (document 01, 'Commands at their last byte').
+// What a whole frame says, and the host-side writer of commands (document 01, 'Commands at their last byte'; document 02, One).
 //
 //     opcode            modes       legal data
 //     128 Start         all four    none
 //     129 Baud          P S F       0 to 11
 //     130 Control       P           none
 //     131, 132          P S F       none
-//     133, 136          S F         none
+//     133               S F         none
+//     136 Demo          P S F       -1 to 9, a signed byte
 //     134, 135, 143     P S F       none
 //     137 Drive         S F         velocity -500 to 500; radius -2000 to 2000 but not 0, or 32767, or -32768
 //     145 Direct        S F         right, then left, each -500 to 500
@@ -46,8 +47,8 @@ pub enum Command {
     Full,
     // 133
     Power,
-    // 136
-    Demo,
+    // 136: a demo's number.
+    Demo(i8),
     // 134
     Spot,
     // 135
@@ -182,7 +183,7 @@ fn head_of(command: Command) -> Head
         Command::Safe => head0(131),
         Command::Full => head0(132),
         Command::Power => head0(133),
-        Command::Demo => head0(136),
+        Command::Demo(number) => head1(136, wire::low16(wire::widen(number))),
         Command::Spot => head0(134),
         Command::Cover => head0(135),
         Command::Dock => head0(143),
@@ -220,7 +221,7 @@ fn command_of(bytes: [u8; 35]) -> Command
         131 => Command::Safe,
         132 => Command::Full,
         133 => Command::Power,
-        136 => Command::Demo,
+        136 => Command::Demo(wire::read8(a)),
         134 => Command::Spot,
         135 => Command::Cover,
         143 => Command::Dock,
@@ -295,6 +296,7 @@ pub fn legal(message: Message) -> bool
     let used = &payload[0..n];
     match command {
         Command::Baud(code) => code <= LAST_BAUD,
+        Command::Demo(number) => is_in(-1, 9, wire::widen(number)),
         Command::Drive(velocity, radius) => is_speed(velocity) && is_radius(radius),
         Command::Direct(right, left) => is_speed(right) && is_speed(left),
         Command::Drivers(bits) => bits <= 7,
@@ -341,7 +343,6 @@ pub fn allowed(command: Command, mode: u8) -> bool
         Command::Start => mode <= FULL,
         Command::Control => mode == PASSIVE,
         Command::Power
-        | Command::Demo
         | Command::Drive(_, _)
         | Command::Direct(_, _)
         | Command::Drivers(_)

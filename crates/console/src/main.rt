@@ -32,7 +32,7 @@ fn say_help() {
     );
     say(
         b"A command by name is written as a host would, and its bytes are given one at a time:\n\
-          start, control, safe, full, power, demo, spot, cover, dock\n\
+          start, control, safe, full, power, spot, cover, dock, demo -1 (-1 to 9)\n\
           drive 200 500 (velocity, radius), direct 500 -500 (right, left), drivers 7, duties 32 0 128 (drivers 2, 1, 0)\n\
           leds 8 0 128, outputs 5, infrared 142, baud 10, song 0 60 32 64 32 (number, notes), play 0\n\
           sensors 35, list 9 13, stream 29 13, pause 0\n",

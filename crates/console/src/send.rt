@@ -21,6 +21,7 @@ fn give_frame(session: Session, frame: &[u8], length: usize) -> Session {
 fn say_legal(op: u8) {
     match op {
         129 => say(b"0 to 11"),
+        136 => say(b"-1 to 9"),
         137 => say(b"velocity -500 to 500; radius -2000 to 2000 but not 0, or 32767, or -32768"),
         138 | 147 => say(b"0 to 7"),
         140 => say(b"number 0 to 15, 1 to 16 notes of two numbers"),

@@ -29,6 +29,10 @@ frameCases =
     ends [] 128 (128 ∷ [])
     ∷ ends [] 146 (146 ∷ [])
     ∷ ends [] 255 (255 ∷ [])
+    -- the number of a Demo is no opcode, not even 128
+    ∷ goesOn [] 136 (136 ∷ []) 1
+    ∷ ends (136 ∷ []) 255 (136 ∷ 255 ∷ [])
+    ∷ ends (136 ∷ []) 128 (136 ∷ 128 ∷ [])
     -- W3: a Drive is kept whole
     ∷ goesOn (137 ∷ []) 255 (137 ∷ 255 ∷ []) 3
     ∷ ends (137 ∷ 255 ∷ 56 ∷ 1 ∷ []) 244 (137 ∷ 255 ∷ 56 ∷ 1 ∷ 244 ∷ [])

@@ -1,4 +1,4 @@
--- The frame table (document 01, 'Cutting bytes into frames'): how many data bytes an opcode has.
+-- The frame table (document 01, 'Cutting bytes into frames'; document 02, One): how many data bytes an opcode has.
 -- Assumes nothing.
 use mathlib.Core.Bool.{Bool, true, false, cond}
 use mathlib.Core.List.{List, [], _∷_, _++_}
@@ -16,11 +16,11 @@ pub record Row : Type 0 where
 abbrev row : List ℕ → Length → Row
 row ops n = record { opcodes = ops; length = n }
 
--- document 01's rows, in its order. Its last, 'all others', is the end of the list.
+-- document 01's rows, in its order; 136 stands where request One puts it. The last row, 'all others', is the end of the list.
 abbrev pub frameTable : List Row
 frameTable =
-    row (128 ∷ (fromTo 130 136 ++ (143 ∷ 153 ∷ 154 ∷ []))) (Fixed 0)
-    ∷ row (129 ∷ 138 ∷ 141 ∷ 142 ∷ 147 ∷ 150 ∷ 151 ∷ 155 ∷ 158 ∷ []) (Fixed 1)
+    row (128 ∷ (fromTo 130 135 ++ (143 ∷ 153 ∷ 154 ∷ []))) (Fixed 0)
+    ∷ row (129 ∷ 136 ∷ 138 ∷ 141 ∷ 142 ∷ 147 ∷ 150 ∷ 151 ∷ 155 ∷ 158 ∷ []) (Fixed 1)
     ∷ row (156 ∷ 157 ∷ []) (Fixed 2)
     ∷ row (139 ∷ 144 ∷ []) (Fixed 3)
     ∷ row (137 ∷ 145 ∷ []) (Fixed 4)
@@ -33,7 +33,7 @@ abbrev pub look : List Row → ℕ → Length
 look [] op = Unknown
 look (r ∷ rs) op = cond (among (r .opcodes) op) (r .length) (look rs op)
 
--- an opcode's data length, by document 01's table
+-- an opcode's data length, by the table
 unfoldable pub dataLength : ℕ → Length
 dataLength op = look frameTable op
 

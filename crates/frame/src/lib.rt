@@ -1,13 +1,13 @@
-// Cuts a serial byte stream into frames: an opcode and its data bytes (document 01, 'Cutting bytes into frames').
+// Cuts a serial byte stream into frames: an opcode and its data bytes (document 01, 'Cutting bytes into frames'; document 02, One).
 //
-//     128, 130 to 136, 143, 153, 154                  0
-//     129, 138, 141, 142, 147, 150, 151, 155, 158     1
-//     156, 157                                        2
-//     139, 144                                        3
-//     137, 145                                        4
-//     140                                             2 + 2L, L the second data byte
-//     148, 149, 152                                   1 + N, N the first data byte
-//     all others                                      0, unknown
+//     128, 130 to 135, 143, 153, 154                      0
+//     129, 136, 138, 141, 142, 147, 150, 151, 155, 158    1
+//     156, 157                                            2
+//     139, 144                                            3
+//     137, 145                                            4
+//     140                                                 2 + 2L, L the second data byte
+//     148, 149, 152                                       1 + N, N the first data byte
+//     all others                                          0, unknown
 //
 // Proved (specs/Cut.antt): whatever the data bytes are, none is read as an opcode, and the byte after them is; so of 511 bytes 128 the
 // last is read as one, and 511 is the least such number. The cut knows nothing of modes, nor of whether a command will be refused.
@@ -62,8 +62,8 @@ pub fn data_length(op: u8) -> Length
     ensures { λ r. ⌜ r ≡ dataLength op ⌝ }
 {
     match op {
-        128 | 130..=136 | 143 | 153 | 154 => Length::Fixed(0),
-        129 | 138 | 141 | 142 | 147 | 150 | 151 | 155 | 158 => Length::Fixed(1),
+        128 | 130..=135 | 143 | 153 | 154 => Length::Fixed(0),
+        129 | 136 | 138 | 141 | 142 | 147 | 150 | 151 | 155 | 158 => Length::Fixed(1),
         156 | 157 => Length::Fixed(2),
         139 | 144 => Length::Fixed(3),
         137 | 145 => Length::Fixed(4),

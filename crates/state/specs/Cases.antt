@@ -154,6 +154,9 @@ recordCases =
     ∷ ends (holding (137 ∷ 0 ∷ [])) 4 3
     ∷ ends (holding (137 ∷ 0 ∷ [])) 2 3
     ∷ ends (holding []) 1 0
+    ∷ ends (holding (136 ∷ [])) 0 1
+    ∷ ends (holding (136 ∷ [])) 2 1
+    ∷ case (holding (136 ∷ 9 ∷ []) 0) (holding (136 ∷ []) 1)
     ∷ ends (holding (140 ∷ [])) 1 0
     ∷ ends (holding (140 ∷ 0 ∷ 255 ∷ [])) 511 510
     ∷ ends (holding (149 ∷ 1 ∷ [])) 0 1

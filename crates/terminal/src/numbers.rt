@@ -1,5 +1,6 @@
 // The numbers of a line, and what is said of bad ones: the line, the place, and what was wrong.
 ghost use Prim.Native.Nat.{_≤_};
+use crate::output::plus;
 use crate::output::say;
 use crate::output::say_number;
 use crate::output::say_shown;
@@ -16,7 +17,7 @@ pub struct Bytes {
     pub ok: bool,
 }
 
-// A number from -32768 to 32767, and the place after it.
+// A number with a sign, and the place after it.
 pub struct Signed {
     pub value: i16,
     pub next: usize,
@@ -115,14 +116,17 @@ pub fn say_wanted(number: usize, place: usize, wanted: usize, given: usize) {
     say(b"\n");
 }
 
-// The sixteen bits of a number with a sign; 65536 where it has none.
-fn bits_of(word: &[u8]) -> usize {
+// The sixteen bits of a number with a sign, from -(most + 1) to most; 65536 for any other word.
+fn bits_of(word: &[u8], most: usize) -> usize {
     let value = line::signed(word);
     match value {
-        Number::Plain(n) => if n <= 32767 { n } else { 65536 },
+        Number::Plain(n) => if n <= most && n <= 32767 { n } else { 65536 },
         Number::Minus(n) => {
             if n == 0 {
                 return 0;
+            }
+            if n > plus(most, 1) {
+                return 65536;
             }
             if n <= 32768 { 65536 - n } else { 65536 }
         }
@@ -130,12 +134,12 @@ fn bits_of(word: &[u8]) -> usize {
     }
 }
 
-// A number with a sign, from a place on.
-pub fn signed_from(text: &[u8], from: usize, number: usize) -> Signed {
+// A number with a sign, from a place on. Its width has the numbers from -(most + 1) to most, sixteen bits at the widest.
+pub fn signed_from(text: &[u8], from: usize, number: usize, most: usize) -> Signed {
     let word = line::next_word(text, from);
     let start = word.start;
     let end = word.end;
-    let bits = bits_of(&text[start..end]);
+    let bits = bits_of(&text[start..end], most);
     if bits < 65536 {
         let value = wire::read16((bits / 256) as u8, (bits % 256) as u8);
         return Signed {
@@ -149,7 +153,11 @@ pub fn signed_from(text: &[u8], from: usize, number: usize) -> Signed {
         say(b"a number is missing\n");
     } else {
         say_shown(&text[start..end]);
-        say(b" is not a number from -32768 to 32767\n");
+        say(b" is not a number from -");
+        say_number(plus(most, 1));
+        say(b" to ");
+        say_number(most);
+        say(b"\n");
     }
     Signed {
         value: 0,

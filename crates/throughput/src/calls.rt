@@ -119,7 +119,7 @@ fn command_of(op: u8, a: u8, b: u8, c: u8, first: i16, second: i16) -> Command {
         133 => Command::Power,
         134 => Command::Spot,
         135 => Command::Cover,
-        136 => Command::Demo,
+        136 => Command::Demo(wire::read8(a)),
         137 => Command::Drive(first, second),
         138 => Command::Drivers(a),
         139 => Command::Leds(a, b, c),

@@ -1,22 +1,20 @@
 -- Sixteen-bit numbers: two's complement, high byte first (document 01, under 'Commands at their last byte').
 -- Assumes nothing.
 use mathlib.Core.Path.{_≡_}
-use mathlib.Core.Bool.{cond}
 use mathlib.Core.List.{List, [], _∷_}
-use Prim.Native.Nat.{ℕ, _+_, _-_, _*_, _/_, _%_, _<_}
-use lib.Dec.{ltb}
+use Prim.Native.Nat.{ℕ, _+_, _*_, _/_, _%_, _<_}
 use lib.IntN.{ℤ, pos, negsuc, negℤ}
-use mir.Syntax.{w16}
+use mir.Syntax.{w8, w16}
 use mir.Val.{SFits}
+use Rattle.wire.specs.Signed.{bitsOf, signedOf, bits8Of}
 
 -- a negative number
 abbrev pub minus : ℕ → ℤ
 minus n = negℤ (pos n)
 
--- the sixteen bits of a number, read without a sign; negsuc n is -(n + 1)
+-- the sixteen bits of a number, read without a sign
 abbrev pub bits16Of : ℤ → ℕ
-bits16Of (pos n) = n
-bits16Of (negsuc n) = 65535 - n
+bits16Of = bitsOf 32768
 
 abbrev pub high16Of : ℤ → ℕ
 high16Of v = bits16Of v / 256
@@ -30,7 +28,7 @@ be16 v = high16Of v ∷ low16Of v ∷ []
 
 -- the number whose sixteen bits are n
 abbrev pub signed16 : ℕ → ℤ
-signed16 n = cond (ltb n 32768) (pos n) (negsuc (65535 - n))
+signed16 = signedOf 32768
 
 -- the number that two bytes say
 unfoldable pub read16Of : ℕ → ℕ → ℤ
@@ -44,13 +42,13 @@ Shown v hi lo = (be16 v ≡ hi ∷ lo ∷ []) × (read16Of hi lo ≡ v)
 pub record RoundTrip16 : Type 0 where
   pub read-written : (v : ℤ) → SFits w16 v → read16Of (high16Of v) (low16Of v) ≡ v
   pub written-read : (hi lo : ℕ) → hi < 256 → lo < 256 → be16 (read16Of hi lo) ≡ hi ∷ lo ∷ []
-  -- the bits of -(n + 1) and n + 1 make 65536
-  pub complement : (n : ℕ) → n < 32768 → bits16Of (negsuc n) + (n + 1) ≡ 65536
   -- the values of W3, W5 and W6: -200; -32768, which has no opposite; 500; -500
   pub w3 : Shown (negsuc 199) 255 56
   pub w5 : Shown (negsuc 32767) 128 0
   pub w6-right : Shown (pos 500) 1 244
   pub w6-left : Shown (negsuc 499) 254 12
+  -- the low byte of a number that a signed byte can say is that byte
+  pub low-of-byte : (v : ℤ) → SFits w8 v → low16Of v ≡ bits8Of v
   -- both bytes are bytes, and the number is one of i16
   pub high-byte : (v : ℤ) → SFits w16 v → high16Of v < 256
   pub low-byte : (v : ℤ) → low16Of v < 256

@@ -46,6 +46,11 @@ fn named(name: &[u8], numbers: &[u8]) -> usize {
     plus(head, plus(say_joined(numbers, b", "), say(b")")))
 }
 
+fn named_signed(name: &[u8], number: i8) -> usize {
+    let head = plus(say(name), say(b"("));
+    plus(head, plus(say_signed(wire::widen(number)), say(b")")))
+}
+
 fn named_pair(name: &[u8], a: i16, b: i16) -> usize {
     let head = plus(plus(say(name), say(b"(")), say_signed(a));
     plus(head, plus(plus(say(b", "), say_signed(b)), say(b")")))
@@ -59,7 +64,7 @@ fn say_command(command: Command) -> usize {
         Command::Safe => say(b"Safe"),
         Command::Full => say(b"Full"),
         Command::Power => say(b"Power"),
-        Command::Demo => say(b"Demo"),
+        Command::Demo(number) => named_signed(b"Demo", number),
         Command::Spot => say(b"Spot"),
         Command::Cover => say(b"Cover"),
         Command::Dock => say(b"Dock"),

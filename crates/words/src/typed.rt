@@ -53,14 +53,24 @@ pub fn opcode_named(word: &[u8]) -> u8 {
     0
 }
 
+// A signed byte: the low byte of its sixteen bits.
+fn signed_byte(op: u8, text: &[u8], from: usize, number: usize) -> Framed {
+    let mut bytes = [0u8; 35];
+    let read = signed_from(text, from, number, 127);
+    let ok = read.ok && ends(text, read.next, number);
+    bytes[0] = op;
+    bytes[1] = wire::low16(read.value);
+    Framed { bytes, ok }
+}
+
 // Two numbers of sixteen bits, high byte first.
 fn pair(op: u8, text: &[u8], from: usize, number: usize) -> Framed {
     let mut bytes = [0u8; 35];
-    let first = signed_from(text, from, number);
+    let first = signed_from(text, from, number, 32767);
     if !first.ok {
         return Framed { bytes, ok: false };
     }
-    let second = signed_from(text, first.next, number);
+    let second = signed_from(text, first.next, number, 32767);
     let ok = second.ok && ends(text, second.next, number);
     bytes[0] = op;
     bytes[1] = wire::high16(first.value);
@@ -141,6 +151,9 @@ fn song(op: u8, text: &[u8], from: usize, number: usize) -> Framed {
 }
 
 fn frame_from(op: u8, text: &[u8], from: usize, number: usize) -> Framed {
+    if op == 136 {
+        return signed_byte(op, text, from, number);
+    }
     if op == 137 || op == 145 {
         return pair(op, text, from, number);
     }

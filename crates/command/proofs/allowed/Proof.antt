@@ -37,7 +37,7 @@ returns-3 : tie.Need-returns-3
 unfolding rowOf
 returns-3 c =
     let a = c .before .before .args in
-    let tags : List ℕ = 5 ∷ 6 ∷ (fromTo 10 16 ++ (18 ∷ [])) in
+    let tags : List ℕ = 5 ∷ (fromTo 10 16 ++ (18 ∷ [])) in
     c .from-mode .ensures ∙ from-safe (a .mode) (omega arith)
     ∙ allowed-as (a .mode) refl (has (a .command) (2 ∷ 3 ∷ []) tags (λ a b d v w. tt) (c .before .match .keys3))
 
@@ -51,7 +51,7 @@ returns-5 : tie.Need-returns-5
 unfolding rowOf
 returns-5 c =
     let a = c .before .before .args in
-    let tags : List ℕ = 1 ∷ 3 ∷ 4 ∷ 7 ∷ 8 ∷ 9 ∷ 17 ∷ fromTo 19 22 in
+    let tags : List ℕ = 1 ∷ 3 ∷ 4 ∷ 6 ∷ 7 ∷ 8 ∷ 9 ∷ 17 ∷ fromTo 19 22 in
     c .from-mode2 .ensures ∙ from-passive (a .mode) (omega arith)
     ∙ allowed-as (a .mode) refl (has (a .command) (1 ∷ 2 ∷ 3 ∷ []) tags (λ a b d v w. tt) (c .before .match .keys5))
 

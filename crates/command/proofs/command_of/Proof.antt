@@ -1,6 +1,6 @@
 -- `command::command_of` meets its contract: each arm knows the opcode.
 -- Assumes nothing.
-use mathlib.Core.Path.{_≡_, ap₂, _∙_}
+use mathlib.Core.Path.{_≡_, ap, ap₂, _∙_}
 use mathlib.Core.List.{List, [], _∷_}
 use Prim.Native.Nat.{ℕ, _<_}
 use native.Mathlib.Omega.{arith}
@@ -11,10 +11,15 @@ use mir.Val.{Fits, SFits}
 use mir.ValLaws.{toZ-ofZ}
 use borrow.Author.Needs.{needs}
 use Rattle.wire.proofs.MatchLaws.{range, Case, Taken, by-cases}
-use Rattle.command.specs.declared.Command.the-variants.{Drive, Direct}
+use Rattle.command.specs.declared.Command.the-variants.{Demo, Drive, Direct}
 use Rattle.command.proofs.LayoutLaws.{says, sort, not-offered, unknown}
 use Rattle.command.proofs.command_of.Statement.{statement}
 use Rattle.command.proofs.command_of.Tie as tie
+
+demo : tie.Need-returns-7
+demo c =
+    let f : SFits w8 (c .read8 .result) = search needs in
+    ap Demo (toZ-ofZ w8 _ f ∙ c .read8 .ensures) ∙ says (c .before .before .args .t1) (c .before .match .keys7)
 
 drive : tie.Need-returns-11
 drive c =
@@ -84,13 +89,14 @@ command-of-spec =
     (λ c κs. search needs)
     (λ c κs. search needs)
     (λ c κs. search needs)
+    (λ c κs. search needs)
     (λ c. says (c .before .args .t1) (c .match .keys1))
     (λ c. says (c .before .args .t1) (c .match .keys2))
     (λ c. says (c .before .args .t1) (c .match .keys3))
     (λ c. says (c .before .args .t1) (c .match .keys4))
     (λ c. says (c .before .args .t1) (c .match .keys5))
     (λ c. says (c .before .args .t1) (c .match .keys6))
-    (λ c. says (c .before .args .t1) (c .match .keys7))
+    demo
     (λ c. says (c .before .args .t1) (c .match .keys8))
     (λ c. says (c .before .args .t1) (c .match .keys9))
     (λ c. says (c .before .args .t1) (c .match .keys10))

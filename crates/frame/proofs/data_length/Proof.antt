@@ -17,7 +17,7 @@ use Rattle.frame.proofs.data_length.Tie as tie
 -- the single opcodes of the arms, the last arm's first
 abbrev singles : List (List ℕ)
 singles =
-    (152 ∷ []) ∷ (140 ∷ []) ∷ (137 ∷ 145 ∷ []) ∷ (139 ∷ 144 ∷ []) ∷ (129 ∷ 138 ∷ 147 ∷ 155 ∷ 158 ∷ []) ∷ (128 ∷ 143 ∷ []) ∷ []
+    (152 ∷ []) ∷ (140 ∷ []) ∷ (137 ∷ 145 ∷ []) ∷ (139 ∷ 144 ∷ []) ∷ (129 ∷ 136 ∷ 138 ∷ 147 ∷ 155 ∷ 158 ∷ []) ∷ (128 ∷ 143 ∷ []) ∷ []
 
 abbrev case : Arm → Length → Case Length
 case a l = record { arm = a; gives = l }
@@ -34,11 +34,11 @@ cases =
     ∷ case (range 158 255) Unknown
     ∷ case (keys (152 ∷ [])) Counted
     ∷ case (range 147 149) Counted
-    ∷ case (keys (129 ∷ 138 ∷ 147 ∷ 155 ∷ 158 ∷ [])) (Fixed 1)
-    ∷ case (range 137 142) (Fixed 1)
+    ∷ case (keys (129 ∷ 136 ∷ 138 ∷ 147 ∷ 155 ∷ 158 ∷ [])) (Fixed 1)
+    ∷ case (range 136 142) (Fixed 1)
     ∷ case (range 150 151) (Fixed 1)
     ∷ case (keys (128 ∷ 143 ∷ [])) (Fixed 0)
-    ∷ case (range 128 136) (Fixed 0)
+    ∷ case (range 128 135) (Fixed 0)
     ∷ case (range 152 154) (Fixed 0)
     ∷ []
 

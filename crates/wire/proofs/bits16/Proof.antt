@@ -1,46 +1,27 @@
 -- `wire::bits16` meets its contract: v below 0 is -(n + 1), so that -1 - v is n, and 65535 - n its bits.
 -- Assumes nothing.
-use mathlib.Core.Path.{_≡_, sym, ap, _∙_}
-use mathlib.Core.Bool.{true, false}
+use mathlib.Core.Path.{sym, ap, _∙_}
 use native.Mathlib.Omega.{arith}
-use lib.IntN.{ℤ, pos, negsuc, _-ℤ_, natAbs}
-use lib.Signed.{ltZ, mag}
-use mir.Facts.{toZ-ofZ, toZ-pos}
-use mir.Syntax.{w16}
-use mir.Val.{toZ, ofZ, SFits}
+use lib.IntN.{natAbs}
+use mir.Facts.{toZ-ofZ}
 use Rattle.wire.specs.Sixteen.{bits16Of}
-use Rattle.wire.proofs.SixteenLaws.{flip-neg, below-zero, not-below-zero}
+use Rattle.wire.proofs.SignedLaws.{below, raised-fits, raised-held, above}
 use Rattle.wire.proofs.bits16.Statement.{statement}
 use Rattle.wire.proofs.bits16.Tie as tie
 
--- what -1 - v is, as the code computes it from the bits of v
-module _ (v : ℤ) (f : SFits w16 v) (e : ltZ (toZ w16 (ofZ w16 v)) (pos 0) ≡ true) where
-  below : v ≡ negsuc (mag v)
-  below = below-zero v (rw (toZ-ofZ f) at e)
-
-  flipped : negsuc 0 -ℤ toZ w16 (ofZ w16 v) ≡ pos (mag v)
-  flipped = ap (λ (y : ℤ). negsuc 0 -ℤ y) (toZ-ofZ f ∙ below) ∙ flip-neg (mag v)
-
-  held : toZ w16 (ofZ w16 (negsuc 0 -ℤ toZ w16 (ofZ w16 v))) ≡ pos (mag v)
-  held = ap (λ (y : ℤ). toZ w16 (ofZ w16 y)) flipped ∙ toZ-pos w16 (f .sfits)
-
 sub-result : tie.Need-sub-result
-sub-result c = rw (flipped _ (c .before .fits .v) (c .if1 .taken)) (record { sfits = c .before .fits .v .sfits })
+sub-result c = raised-fits _ (c .before .fits .v) (c .if1 .taken)
 
 cast-result : tie.Need-cast-result
-cast-result c = rw (held _ (c .before .fits .v) (c .if1 .taken)) (tt, omega (arith, c .before .fits .v .sfits))
+cast-result c = rw (raised-held _ (c .before .fits .v) (c .if1 .taken)) (tt, omega (arith, c .before .fits .v .sfits))
 
 sub-result-2 : tie.Need-sub-result-2
-sub-result-2 c = rw (held _ (c .before .fits .v) (c .if1 .taken)) (omega (arith, c .before .fits .v .sfits))
+sub-result-2 c = rw (raised-held _ (c .before .fits .v) (c .if1 .taken)) (omega (arith, c .before .fits .v .sfits))
 
 returns : tie.Need-returns
 returns c =
     let f = c .before .fits .v in
-    rw (held _ f (c .if1 .taken)) (sym (ap bits16Of (below _ f (c .if1 .taken))))
-
--- and what v is where it is not
-above : (v : ℤ) (f : SFits w16 v) → ltZ (toZ w16 (ofZ w16 v)) (pos 0) ≡ false → toZ w16 (ofZ w16 v) ≡ pos (mag v)
-above v f e = toZ-ofZ f ∙ not-below-zero v (rw (toZ-ofZ f) at e)
+    rw (raised-held _ f (c .if1 .taken)) (sym (ap bits16Of (below _ f (c .if1 .taken))))
 
 cast-result-2 : tie.Need-cast-result-2
 cast-result-2 c = let f = c .before .fits .v in rw (above _ f (c .if1 .left)) (tt, omega (arith, f .sfits))
