@@ -66,7 +66,8 @@ row modes es = record { modes = modes; entries = es }
 abbrev pub song : ℕ → List ℕ → Song
 song n notes = record { len = n; notes = padded 32 notes }
 
--- document 01's rows, in its order; 136 has the row that document 02's request One gives it. Modes are 0 Off, 1 Passive, 2 Safe, 3 Full; the image's byte at place k is 100 + k.
+-- document 01's rows, in its order; 136 has the row that document 02's request One gives it. Modes are 0 Off, 1 Passive, 2 Safe, 3 Full; the image's
+-- byte at place k is 100 + k.
 abbrev pub effectTable : List EffectRow
 effectTable =
     row (0 ∷ 1 ∷ 2 ∷ 3 ∷ []) (stopping 128 (nothingSet [] ∷ []) ∷ [])

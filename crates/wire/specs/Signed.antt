@@ -29,7 +29,7 @@ ShownByte v b = (bits8Of v ≡ b) × (read8Of b ≡ v)
 
 -- THEOREM: what is written is read back, and what is read is written back, at every width
 pub record RoundTripBits (half : ℕ) : Type 0 where
-  -- a number's magnitude: n of pos n and of negsuc n
+  -- mag is n of pos n and of negsuc n: below half for the numbers from -half to half - 1
   pub read-written : (v : ℤ) → mag v < half → signedOf half (bitsOf half v) ≡ v
   pub written-read : (n : ℕ) → n < 2 * half → bitsOf half (signedOf half n) ≡ n
   -- the bits of -(n + 1) and n + 1 make 2 to the width
