@@ -1,8 +1,9 @@
 //! Counting what a file of calls meets of the rules.
 
+use std::cmp::Ordering;
 use std::io::{self, Write};
 
-use crate::board::{Board, Mode, Number};
+use crate::board::{Board, Mode, Number, SafetyReport, WheelOrder};
 use crate::check::{self, Item};
 use crate::command;
 use crate::file::Call;
@@ -32,10 +33,15 @@ pub struct Cover {
     bad: [u64; Item::ALL.len()],
     /// Of Demo alone.
     demo: Demo,
+    /// By row of `CLIFFS`: how often a report met it.
+    cliffs: [u64; CLIFFS.len()],
     /// The opcode and mode of the frame that the present call may complete.
     at_hand: Option<(u8, Mode)>,
     /// The one item that the present call's record breaks.
     broken: Option<Item>,
+    /// The row of `CLIFFS` that the present call meets if the base does as the
+    /// row says.
+    cliff: Option<usize>,
 }
 
 impl Default for Cover {
@@ -51,8 +57,10 @@ impl Cover {
             done: [[0; MODES.len()]; 256],
             bad: [0; Item::ALL.len()],
             demo: Demo::new(),
+            cliffs: [0; CLIFFS.len()],
             at_hand: None,
             broken: None,
+            cliff: None,
         }
     }
 
@@ -75,7 +83,11 @@ impl Cover {
         for (item, count) in Item::ALL.iter().zip(self.bad) {
             writeln!(out, "bad {} {count}", item.name())?;
         }
-        self.demo.write_rows(out)
+        self.demo.write_rows(out)?;
+        for ((mode, bend, side, _), count) in CLIFFS.iter().zip(self.cliffs) {
+            writeln!(out, "cliff {mode:?} {bend} {side} {count}")?;
+        }
+        Ok(())
     }
 
     /// Counts a Demo that the call ended or that the writer was asked for.
@@ -88,6 +100,15 @@ impl Cover {
             if outcome.number != Number::Waiting {
                 self.demo.end(byte, outcome.number);
             }
+        }
+    }
+
+    /// Counts a cliff after which the base stands as its row says.
+    fn count_cliff(&mut self, board: &Board) {
+        if let Some(row) = self.cliff {
+            let (mode, .., stops) = CLIFFS[row];
+            let then = if stops { Mode::Passive } else { mode };
+            self.cliffs[row] += u64::from(board.mode == then as u8);
         }
     }
 }
@@ -103,6 +124,7 @@ impl Observer for Cover {
         };
         self.at_hand = opcode.zip(Mode::from_code(board.mode));
         self.broken = None;
+        self.cliff = cliff(call, board);
         // The writer gets no record.
         if matches!(call, Call::Write(_)) {
             return;
@@ -120,7 +142,7 @@ impl Observer for Cover {
         call: &Call,
         outcome: Outcome,
         _answer: &[u8],
-        _board: &Board,
+        board: &Board,
     ) -> io::Result<()> {
         let kind = match call {
             Call::Byte(_) => 0,
@@ -141,6 +163,7 @@ impl Observer for Cover {
             self.bad[item as usize] += 1;
         }
         self.count_demo(call, outcome);
+        self.count_cliff(board);
         Ok(())
     }
 }
@@ -251,4 +274,64 @@ fn held_demo(board: &Board) -> Option<usize> {
             && check::only_broken(board) == item
             && check::is_good(board) == item.is_none()
     })
+}
+
+/// The cliffs on a Direct order that are counted: the mode, the bend, the wheel
+/// that is ahead or the faster one, and whether the base stops.
+const CLIFFS: [(Mode, &str, &str, bool); 13] = [
+    (Mode::Safe, "ahead", "right", true),
+    (Mode::Safe, "ahead", "left", true),
+    (Mode::Safe, "ahead", "both", true),
+    (Mode::Safe, "tight", "right", true),
+    (Mode::Safe, "tight", "left", true),
+    (Mode::Safe, "border", "right", false),
+    (Mode::Safe, "border", "left", false),
+    (Mode::Safe, "wide", "right", false),
+    (Mode::Safe, "wide", "left", false),
+    (Mode::Safe, "straight", "both", false),
+    (Mode::Safe, "still", "both", false),
+    (Mode::Full, "ahead", ANY_SIDE, false),
+    (Mode::Full, "tight", ANY_SIDE, false),
+];
+
+/// In a row of `CLIFFS`: whichever wheel it is.
+const ANY_SIDE: &str = "any";
+
+/// The row of a report with cliff alone on a good record with a Direct order.
+fn cliff(call: &Call, board: &Board) -> Option<usize> {
+    const CLIFF_ALONE: SafetyReport = SafetyReport {
+        wheel_drop: false,
+        cliff: true,
+        charger: false,
+    };
+    let direct = board.wheels.kind == WheelOrder::DIRECT;
+    if *call != Call::Report(CLIFF_ALONE) || !direct || !check::is_good(board) {
+        return None;
+    }
+    let (bend, side) = bend_of(board.wheels.first, board.wheels.second);
+    CLIFFS.iter().position(|&(mode, row_bend, row_side, _)| {
+        mode as u8 == board.mode && row_bend == bend && [side, ANY_SIDE].contains(&row_side)
+    })
+}
+
+/// How legal wheels go: the bend, and the wheel that is ahead or the faster one.
+fn bend_of(right: i16, left: i16) -> (&'static str, &'static str) {
+    match (right > 0, left > 0) {
+        (true, true) => return ("ahead", "both"),
+        (true, false) => return ("ahead", "right"),
+        (false, true) => return ("ahead", "left"),
+        (false, false) => {}
+    }
+    let (side, fast, slow) = match right.cmp(&left) {
+        Ordering::Equal if right == 0 => return ("still", "both"),
+        Ordering::Equal => return ("straight", "both"),
+        Ordering::Less => ("right", -right, -left),
+        Ordering::Greater => ("left", -left, -right),
+    };
+    // 129 (fast + slow) against 165 (fast - slow), brought to lowest terms.
+    match (49 * slow).cmp(&(6 * fast)) {
+        Ordering::Less => ("tight", side),
+        Ordering::Equal => ("border", side),
+        Ordering::Greater => ("wide", side),
+    }
 }

@@ -1,6 +1,6 @@
 //! Files of calls, whole and malformed.
 
-use twin::board::Board;
+use twin::board::{Board, Mode, WheelOrder};
 use twin::cover::Cover;
 use twin::layout;
 use twin::perform::{perform, Summary, Trace};
@@ -245,6 +245,57 @@ fn cover_counts_of_demo() {
         "write 136 0 1",
         "write 136 4 2",
         "write 136 7 1",
+    ];
+    assert_eq!(met(&file), expected);
+}
+
+/// A record in a mode under an order, and a report on it.
+fn reported(mode: Mode, order: WheelOrder, duty: u8, flags: u8) -> Vec<u8> {
+    let mut board = Board::power_on();
+    board.mode = mode as u8;
+    board.wheels = order;
+    board.duties[0] = duty;
+    let mut file = vec![131];
+    file.extend_from_slice(&layout::state_bytes(&board));
+    file.extend_from_slice(&[2, flags]);
+    file
+}
+
+#[test]
+fn cover_counts_of_cliffs() {
+    let wheels = [(1, 0), (500, 9), (0, -1), (-49, -6), (-48, -6), (-7, -7)];
+    let mut file = Vec::new();
+    for mode in [Mode::Safe, Mode::Full] {
+        for (right, left) in wheels {
+            file.extend(reported(mode, WheelOrder::direct(right, left), 0, 2));
+            file.extend(reported(mode, WheelOrder::direct(left, right), 0, 2));
+        }
+        file.extend(reported(mode, WheelOrder::direct(0, 0), 0, 2));
+    }
+    // None of these is a cliff alone on a good record with a Direct order.
+    let tight = WheelOrder::direct(-500, -50);
+    for flags in [0, 1, 3, 4, 6, 7] {
+        file.extend(reported(Mode::Safe, tight, 0, flags));
+    }
+    file.extend(reported(Mode::Safe, tight, 129, 2));
+    file.extend(reported(Mode::Safe, WheelOrder::drive(-500, -50), 0, 2));
+    let expected = [
+        "report 0 33",
+        "report 8 1",
+        "bad duty 1",
+        "cliff Safe ahead right 1",
+        "cliff Safe ahead left 1",
+        "cliff Safe ahead both 2",
+        "cliff Safe tight right 1",
+        "cliff Safe tight left 1",
+        "cliff Safe border right 1",
+        "cliff Safe border left 1",
+        "cliff Safe wide right 1",
+        "cliff Safe wide left 1",
+        "cliff Safe straight both 2",
+        "cliff Safe still both 1",
+        "cliff Full ahead any 4",
+        "cliff Full tight any 2",
     ];
     assert_eq!(met(&file), expected);
 }

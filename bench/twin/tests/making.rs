@@ -1,9 +1,12 @@
 //! Made files: the same from the same seed, whole, with as many calls as were
 //! asked for, and together meeting every row of the cover table.
 
+use std::collections::HashSet;
+
 use twin::cover::Cover;
 use twin::file::{Record, Records};
-use twin::make::{make, KINDS};
+use twin::make::rng::Rng;
+use twin::make::{make, wheels, KINDS};
 use twin::perform::perform;
 
 fn made(kind: &str, seed: u64, count: u64) -> Vec<u8> {
@@ -45,6 +48,26 @@ fn every_row_is_met() {
     let table = String::from_utf8(out).unwrap();
     let unmet: Vec<&str> = table.lines().filter(|line| line.ends_with(" 0")).collect();
     assert_eq!(unmet, [""; 0]);
+}
+
+/// Direct orders for a cliff are legal, and all that are at equality or a step
+/// from it come, either way round.
+#[test]
+fn wheels_near_a_cliff() {
+    let mut rng = Rng::new(1);
+    let mut met = HashSet::new();
+    for _ in 0..20_000 {
+        let order = wheels::near_a_cliff(&mut rng);
+        assert!(order.in_range(), "{order:?}");
+        met.insert((order.first, order.second));
+    }
+    for times in 1..=10 {
+        for (step, other_step) in [(0, 0), (1, 0), (-1, 0), (0, 1), (0, -1)] {
+            let (fast, slow) = (-49 * times + step, -6 * times + other_step);
+            assert!(met.contains(&(fast, slow)), "{fast} {slow}");
+            assert!(met.contains(&(slow, fast)), "{slow} {fast}");
+        }
+    }
 }
 
 #[test]

@@ -166,7 +166,9 @@ fn reports_by_mode_and_order() {
         (WheelOrder::drive(-1, i16::MIN), false),
         (WheelOrder::direct(0, 1), true),
         (WheelOrder::direct(1, -1), true),
-        (WheelOrder::direct(0, -500), false),
+        (WheelOrder::direct(0, -500), true),
+        (WheelOrder::direct(-500, -500), false),
+        (WheelOrder::direct(0, 0), false),
     ];
     for mode in [Mode::Safe, Mode::Full] {
         for (order, into_cliff) in orders {

@@ -1,6 +1,7 @@
 pub mod OutcomeLaws
 pub mod LegalLaws
 pub mod JudgeLaws
+pub mod BackingLaws
 pub mod CallsLaws
 pub mod RunLaws
 pub mod ListsOfCallsLaws

@@ -7,13 +7,13 @@ use Prim.Native.Nat.{ℕ, _≤_, _<_, zero-le}
 use native.Mathlib.Omega.{arith}
 use lib.Dec.{T, leb, eqb, leb·zero}
 use lib.IntN.{pos}
-use lib.Signed.{leZ, ltZ}
+use lib.Signed.{leZ}
 use lib.ListN.{length, take, replicate}
 use borrow.Author.Tests.{le-leb, lt-leb, eq-eqb, ne-eqb}
 use Rattle.wire.specs.Lists.{among}
 use Rattle.wire.specs.Signed.{read8Of}
 use Rattle.wire.specs.Sixteen.{minus}
-use Rattle.wire.proofs.BoolLaws.{is-true, beq-eq, pos-eqb, or-none, cond-not}
+use Rattle.wire.proofs.BoolLaws.{is-true, beq-eq, pos-eqb, cond-not}
 use Rattle.wire.proofs.ListsLaws.{from}
 use Rattle.frame.specs.FrameTable.{dataLength}
 use Rattle.frame.specs.Push.{bodySizeAs, emptyPartial}
@@ -35,8 +35,9 @@ use Rattle.state.specs.declared.State.{State}
 use Rattle.state.proofs.RecordProved.{accepted-exactly, accepted-stays}
 use Rattle.board.specs.Outcome.{Outcome, gives}
 use Rattle.board.specs.Judge.{nothing, statusOf, effectOf, judgeOf}
-use Rattle.board.specs.Calls.{fedOf, byteOf, intoCliff, reportOf, chunkNow, songEndOf, runOf}
-use Rattle.board.specs.Rules.{Does, EffectColumn, NumberColumn, FittedRight, StatusRight, ByteRight, RunRight, ReportRight, TickRight, demoHeld, demoGives, DemoRight, RulesRight}
+use Rattle.board.specs.Calls.{fedOf, byteOf, reportOf, chunkNow, songEndOf, runOf}
+use Rattle.board.specs.Rules.{Does, EffectColumn, NumberColumn, FittedRight, StatusRight, ByteRight, RunRight, ReportRight, TickRight, demoHeld, demoGives, DemoRight, BackingRight, RulesRight}
+use Rattle.board.proofs.BackingLaws.{byDirect, of-none, of-drive, of-direct, exchanged, by-backing, by-slower, agree}
 use Rattle.board.proofs.JudgeLaws.{judge-mode, judge-data}
 use Rattle.board.proofs.CallsLaws.{byte-eight, byte-accepted, tick-off, tick-silent, tick-chunk}
 
@@ -123,18 +124,17 @@ module _ (s : State) (t : T (acceptedOf s)) where
   charger-set false cliff e = simp (accepted, e)
 
   report-right : ReportRight s
-  unfolding reportOf intoCliff
+  unfolding reportOf
   report-right =
-      let v = s .motors .first in
-      let r = s .motors .second in
       record {
         not-safe = λ drop cliff charger n. simp (accepted, ne-eqb (s .mode) 2 n);
         drop-set = λ cliff charger e. simp (accepted, e);
         charger-set = charger-set;
         none-set = simp (accepted, and-false (eqb (s .mode) 2));
-        cliff-drive = λ e o. simp (accepted, e, o, or-none (ltZ v (pos 0) && (ltZ (minus 165) r && ltZ r (pos 165))));
-        cliff-direct = λ e o. simp (accepted, e, o);
-        cliff-none = λ o. simp (accepted, o, and-false (eqb (s .mode) 2));
+        cliff-drive = λ e o. simp (accepted, e, of-drive (s .motors) o);
+        cliff-direct = λ e o above. simp (accepted, e, of-direct (s .motors) o, above);
+        cliff-backing = λ e o p q right left. simp (accepted, e, of-direct (s .motors) o ∙ (λ i. byDirect (right i) (left i)) ∙ by-backing p q);
+        cliff-none = λ o. simp (accepted, of-none (s .motors) o, and-false (eqb (s .mode) 2));
       }
 
   tick-right : (image : List ℕ) (room : ℕ) → TickRight s image room
@@ -216,6 +216,16 @@ module _ (s : State) (t : T (acceptedOf s)) (e : s .partial ≡ emptyPartial) (i
         before-named = ap (λ (o : Outcome). o .number) (number 128 (omega arith)) ∙ four-or-three (eqb (s .mode) 0);
       }
 
+-- ---- backing round a stair head
+
+backing-right : (s : State) → BackingRight s
+backing-right s =
+    record {
+      agree = λ v r a b n right left. of-direct _ refl ∙ agree v r a b right left n ∙ sym (of-drive _ refl);
+      exchanged = λ a b. of-direct _ refl ∙ exchanged a b ∙ sym (of-direct _ refl);
+      slower = λ p q h. of-direct _ refl ∙ by-slower p q h;
+    }
+
 pub rules-right : RulesRight
 rules-right =
     record {
@@ -228,5 +238,6 @@ rules-right =
       report-right = report-right;
       tick-right = tick-right;
       demo-right = demo-right;
+      backing-right = backing-right;
       song-end-right = song-end-right;
     }

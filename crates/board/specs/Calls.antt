@@ -2,9 +2,9 @@
 -- Assumes nothing.
 use mathlib.Core.Bool.{Bool, false, not, cond, _&&_, _||_}
 use mathlib.Core.List.{List, [], _∷_, _++_, map}
-use Prim.Native.Nat.{ℕ, _+_}
-use lib.Dec.{eqb}
-use lib.IntN.{pos}
+use Prim.Native.Nat.{ℕ, _+_, _*_}
+use lib.Dec.{ltb, eqb}
+use lib.IntN.{ℤ, pos, natAbs, _+ℤ_, _-ℤ_}
 use lib.Signed.{ltZ}
 use lib.ListN.{length, take}
 use Rattle.wire.specs.Sixteen.{minus}
@@ -39,13 +39,20 @@ byteOf s b image room = checked s (fedOf s (pushOf (s .partial) b) image room)
 
 -- ---- a safety report
 
+-- document 02, Two: neither wheel is above 0, the two differ, and 129 times their sum's absolute value is below 165 times their difference's
+unfoldable pub backsRound : ℤ → ℤ → Bool
+backsRound right left =
+    not (ltZ (pos 0) right || ltZ (pos 0) left)
+    && ((ltZ right left || ltZ left right) && ltb (129 * natAbs (right +ℤ left)) (165 * natAbs (right -ℤ left)))
+
 -- the base moves into a cliff: Drive with velocity above 0; Drive with velocity below 0 and radius strictly between -165 and 165; Direct with either
--- wheel above 0
+-- wheel above 0; Direct that backs round it
 unfoldable pub intoCliff : Motors → Bool
 intoCliff m =
     (eqb (m .order) drive && ltZ (pos 0) (m .first))
     || ((eqb (m .order) drive && (ltZ (m .first) (pos 0) && (ltZ (minus 165) (m .second) && ltZ (m .second) (pos 165))))
-    || (eqb (m .order) direct && (ltZ (pos 0) (m .first) || ltZ (pos 0) (m .second))))
+    || ((eqb (m .order) direct && (ltZ (pos 0) (m .first) || ltZ (pos 0) (m .second)))
+    || (eqb (m .order) direct && backsRound (m .first) (m .second))))
 
 -- wheel drop or charger is set, or cliff is set and the base is moving into it
 abbrev pub stopsFor : Motors → Bool → Bool → Bool → Bool

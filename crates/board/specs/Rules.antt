@@ -4,9 +4,9 @@
 use mathlib.Core.Path.{_≡_}
 use mathlib.Core.Bool.{Bool, true, false, cond, _&&_, _||_}
 use mathlib.Core.List.{List, [], _∷_}
-use Prim.Native.Nat.{ℕ, _+_, _/_, _%_, _≤_, _<_}
-use lib.Dec.{T, leb, eqb}
-use lib.IntN.{ℤ, pos}
+use Prim.Native.Nat.{ℕ, _+_, _-_, _*_, _/_, _%_, _≤_, _<_}
+use lib.Dec.{T, leb, ltb, eqb}
+use lib.IntN.{ℤ, pos, _+ℤ_, _-ℤ_, _*ℤ_}
 use lib.Signed.{ltZ}
 use lib.ListN.{length, take}
 use Rattle.wire.specs.Sixteen.{minus}
@@ -26,7 +26,7 @@ use Rattle.state.specs.Accepted.{acceptedOf}
 use Rattle.state.specs.declared.State.{State}
 use Rattle.board.specs.Outcome.{Outcome, gives, answers, fitted}
 use Rattle.board.specs.Judge.{statusOf, judgeOf}
-use Rattle.board.specs.Calls.{byteOf, reportOf, tickOf, songEndOf, performed, runOf}
+use Rattle.board.specs.Calls.{byteOf, intoCliff, reportOf, tickOf, songEndOf, performed, runOf}
 
 -- ---- commands
 
@@ -140,8 +140,11 @@ pub record ReportRight (s : State) : Type 0 where
       → let v = s .motors .first in
       let r = s .motors .second in
       reportOf s false true false ≡ gives 0 (cond (ltZ (pos 0) v || (ltZ v (pos 0) && (ltZ (minus 165) r && ltZ r (pos 165)))) (toPassive s) s)
-  pub cliff-direct : s .mode ≡ 2 → s .motors .order ≡ 2
-      → reportOf s false true false ≡ gives 0 (cond (ltZ (pos 0) (s .motors .first) || ltZ (pos 0) (s .motors .second)) (toPassive s) s)
+  pub cliff-direct : s .mode ≡ 2 → s .motors .order ≡ 2 → (ltZ (pos 0) (s .motors .first) || ltZ (pos 0) (s .motors .second)) ≡ true
+      → reportOf s false true false ≡ gives 0 (toPassive s)
+  -- document 02, Two: neither above 0, the right wheel backwards by p and the left by q; of p - q and q - p one is 0, so that they are how far apart the two are
+  pub cliff-backing : s .mode ≡ 2 → s .motors .order ≡ 2 → (p q : ℕ) → s .motors .first ≡ minus p → s .motors .second ≡ minus q
+      → reportOf s false true false ≡ gives 0 (cond (ltb (129 * (p + q)) (165 * (p - q + (q - p)))) (toPassive s) s)
   pub cliff-none : s .motors .order ≡ 0 → reportOf s false true false ≡ gives 0 s
 
 -- THEOREM: a tick
@@ -171,6 +174,18 @@ pub record DemoRight (s : State) (image : List ℕ) (room : ℕ) : Type 0 where
   pub named : waits demoHeld ≡ 1
   pub before-named : byteOf (withPartial demoHeld s) 128 image room .number ≡ cond (eqb (s .mode) 0) 3 4
 
+-- ---- document 02, Two: backing round a stair head
+
+-- THEOREM: whether the base is moving into a cliff by Direct
+pub record BackingRight (s : State) : Type 0 where
+  -- Drive says the same: on a curve of radius r with velocity v the right wheel's speed is v (r + 129) / r and the left's v (r - 129) / r
+  pub agree : (v r a b : ℤ) → (r ≡ pos 0 → ⊥) → a *ℤ r ≡ v *ℤ (r +ℤ pos 129) → b *ℤ r ≡ v *ℤ (r -ℤ pos 129)
+      → intoCliff (withWheels 2 a b s .motors) ≡ intoCliff (withWheels 1 v r s .motors)
+  -- and so do the two exchanged
+  pub exchanged : (a b : ℤ) → intoCliff (withWheels 2 a b s .motors) ≡ intoCliff (withWheels 2 b a s .motors)
+  -- backwards by p and by q, where p is no faster: in lowest terms
+  pub slower : (p q : ℕ) → p ≤ q → intoCliff (withWheels 2 (minus p) (minus q) s .motors) ≡ ltb (49 * p) (6 * q)
+
 -- THEOREM: the rules
 pub record RulesRight : Type 0 where
   pub effect-column : (p : List ℕ) → EffectColumn p
@@ -182,5 +197,6 @@ pub record RulesRight : Type 0 where
   pub report-right : (s : State) → T (acceptedOf s) → ReportRight s
   pub tick-right : (s : State) → T (acceptedOf s) → (image : List ℕ) (room : ℕ) → TickRight s image room
   pub demo-right : (s : State) → T (acceptedOf s) → s .partial ≡ emptyPartial → (image : List ℕ) (room : ℕ) → DemoRight s image room
+  pub backing-right : (s : State) → BackingRight s
   -- a song end only clears playing
   pub song-end-right : (s : State) → T (acceptedOf s) → songEndOf s ≡ gives 0 (withPlaying false s)

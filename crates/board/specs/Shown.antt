@@ -239,9 +239,26 @@ reportCases =
     ∷ stops ofCliff (directing (pos 1) (pos 1))
     ∷ ignores ofCliff (directing (pos 0) (pos 0))
     ∷ ignores ofCliff (directing (minus 1) (minus 1))
+    -- backing round a stair head (document 02, Two), and exchanged
+    ∷ stops ofCliff (directing (minus 500) (minus 50))
+    ∷ ignores ofCliff (directing (minus 500) (minus 100))
+    ∷ stops ofCliff (directing (minus 50) (minus 500))
+    ∷ ignores ofCliff (directing (minus 100) (minus 500))
+    ∷ stops ofCliff (directing (pos 0) (minus 1))
+    ∷ stops ofCliff (directing (minus 1) (pos 0))
+    ∷ ignores ofCliff (directing (minus 7) (minus 7))
+    -- at exact equality, and beside it
+    ∷ ignores ofCliff (directing (minus 49) (minus 6))
+    ∷ ignores ofCliff (directing (minus 6) (minus 49))
+    ∷ stops ofCliff (directing (minus 50) (minus 6))
+    ∷ stops ofCliff (directing (minus 49) (minus 5))
+    -- the curves of Drive -164 164 and Drive -55 165
+    ∷ stops ofCliff (directing (minus 293) (minus 35))
+    ∷ ignores ofCliff (directing (minus 98) (minus 12))
     -- no order, with numbers and duties
     ∷ ignores ofCliff (withWheels 0 (pos 500) (pos 1) (telling 2))
     -- other modes
+    ∷ ignores ofCliff (withWheels 2 (minus 500) (minus 50) (telling 3))
     ∷ ignores (reporting true true true) (telling 3)
     ∷ ignores (reporting true true true) (telling 1)
     ∷ ignores (reporting true true true) (telling 0)

@@ -17,7 +17,7 @@ ghost use mathlib.Core.Path.{_≡_};
 ghost use mathlib.Core.Bool.{true, cond, _&&_};
 ghost use mathlib.Core.List.{[], _∷_};
 ghost use Prim.Native.Nat.{_<_};
-ghost use lib.IntN.{pos};
+ghost use lib.IntN.{pos, natAbs};
 ghost use lib.Signed.{ltZ};
 ghost use lib.ListN.{length, drop};
 ghost use Rattle.wire.specs.Sixteen.{minus};
@@ -28,7 +28,7 @@ ghost use Rattle.state.specs.State.{songAt};
 ghost use Rattle.state.specs.Accepted.{isSet};
 ghost use Rattle.board.specs.Outcome.{gives, answered, sentAs, written};
 ghost use Rattle.board.specs.Judge.{statusOf, rules, judgedBy, judgeOf};
-ghost use Rattle.board.specs.Calls.{byteOf, intoCliff, stopsFor, reportOf, tickOf, songEndOf, performed, runOf, ranAs};
+ghost use Rattle.board.specs.Calls.{byteOf, backsRound, intoCliff, stopsFor, reportOf, tickOf, songEndOf, performed, runOf, ranAs};
 use command::Command;
 use command::Message;
 use effect::effect;
@@ -265,6 +265,30 @@ fn backs_tightly(velocity: i16, radius: i16) -> bool
     velocity < 0 && (-165 < radius && radius < 165)
 }
 
+// A number without its sign.
+fn magnitude(n: i32) -> u32
+    ensures { λ r. ⌜ r ≡ natAbs n ⌝ }
+{
+    if n < 0 {
+        return ((-1 - n) as u32) + 1;
+    }
+    n as u32
+}
+
+// Backwards round a stair head by Direct. That the two differ is in the comparison: 165 times no difference is above nothing.
+fn backs_round(right: i16, left: i16) -> bool
+    ensures { λ r. ⌜ r ≡ backsRound right left ⌝ }
+{
+    if right > 0 || left > 0 {
+        return false;
+    }
+    let r = right as i32;
+    let l = left as i32;
+    let sum = magnitude(r + l);
+    let difference = magnitude(r - l);
+    129 * sum < 165 * difference
+}
+
 // Whether the base moves into a cliff; of a Drive the two numbers are velocity and radius, of a Direct right and left.
 fn into_cliff(motors: Motors) -> bool
     ensures { λ r. ⌜ r ≡ intoCliff motors ⌝ }
@@ -275,7 +299,7 @@ fn into_cliff(motors: Motors) -> bool
     if order == state::DRIVE {
         return first > 0 || backs_tightly(first, second);
     }
-    order == state::DIRECT && (first > 0 || second > 0)
+    order == state::DIRECT && (first > 0 || (second > 0 || backs_round(first, second)))
 }
 
 // Whether a report stops the base, were it in Safe.

@@ -38,6 +38,11 @@ fn say_help() {
           sensors 35, list 9 13, stream 29 13, pause 0\n",
     );
     say(
+        b"In Safe, drop and charger stop the base, and so does a cliff that it moves into: a drive forwards, or backwards on a radius strictly between\n\
+          -165 and 165; a direct with a wheel above 0, or with neither, the two different, and 129 times their sum below 165 times their difference,\n\
+          both without their signs.\n",
+    );
+    say(
         b"Words are in lower case, and a line has at most 1024 bytes. A bad line is told and does nothing. A call is one line; a line `now` follows where it\n\
           changed the record. The end of input ends the console.\n",
     );

@@ -6,10 +6,11 @@ use mathlib.Core.Logic.{⊎-elim}
 use Prim.Native.Nat.{ℕ, zero, suc, _-_, _*_, _^_, _<_, _≤_}
 use native.Mathlib.Nat.{zero-add}
 use native.Mathlib.Omega.{arith}
+use lib.Dec.{T, leb}
 use lib.IntN.{ℤ, pos, negsuc, _-ℤ_}
 use lib.Signed.{ltZ, mag}
-use mir.Facts.{toZ-ofZ, toZ-pos}
-use mir.Syntax.{Width, w8, w16}
+use mir.Facts.{toZ-ofZ, toZ-pos, sfits-widen}
+use mir.Syntax.{Width}
 use mir.Val.{hbits, SFits, toZ, ofZ}
 use borrow.Author.Tests.{le-ltb, lt-ltb}
 use Rattle.wire.specs.Signed.{bitsOf, signedOf, RoundTripBits, BytesShown}
@@ -66,13 +67,13 @@ module _ {w : Width} (v : ℤ) (f : SFits w v) where
   pub above : ltZ (toZ w (ofZ w v)) (pos 0) ≡ false → toZ w (ofZ w v) ≡ pos (mag v)
   above e = toZ-ofZ f ∙ not-below-zero v (rw (toZ-ofZ f) at e)
 
--- a signed byte in sixteen bits
-module _ {v : ℤ} (f : SFits w8 v) where
-  pub wide-fits : SFits w16 v
-  wide-fits = record { sfits = omega (arith, f .sfits) }
+-- a number in a width that is no less
+module _ {w : Width} (w′ : Width) {v : ℤ} (wide : T (leb (hbits w) (hbits w′))) (f : SFits w v) where
+  pub widened-fits : SFits w′ (toZ w (ofZ w v))
+  widened-fits = rw (toZ-ofZ f) (sfits-widen wide f)
 
-  pub widened : {r : ℤ} → r ≡ toZ w8 (ofZ w8 v) → toZ w16 (ofZ w16 r) ≡ v
-  widened e = ap (λ (z : ℤ). toZ w16 (ofZ w16 z)) (e ∙ toZ-ofZ f) ∙ toZ-ofZ wide-fits
+  pub widened : {r : ℤ} → r ≡ toZ w (ofZ w v) → toZ w′ (ofZ w′ r) ≡ v
+  widened e = ap (λ (z : ℤ). toZ w′ (ofZ w′ z)) (e ∙ toZ-ofZ f) ∙ toZ-ofZ (sfits-widen wide f)
 
 -- ---- the round trip
 

@@ -7,6 +7,7 @@ pub mod records;
 pub mod rng;
 pub mod tape;
 pub mod traffic;
+pub mod wheels;
 
 use std::io::{self, Write};
 

@@ -10,6 +10,7 @@ use super::edges::frame_at_an_end;
 use super::frames;
 use super::rng::Rng;
 use super::tape::Tape;
+use super::wheels;
 
 /// Any good record.
 pub fn good(rng: &mut Rng) -> Board {
@@ -366,7 +367,7 @@ fn near_a_cliff(rng: &mut Rng) -> Board {
     let velocity = rng.pick(&[-500, -1, -1, -1, 0, 1, 500]);
     let radius = rng.pick(&[164, 165, 166, 1, 2000, i16::MAX]);
     board.wheels = match rng.below(4) {
-        0 => WheelOrder::direct(rng.pick(&[-1, 0, 1]), rng.pick(&[-1, 0, 1])),
+        0 => wheels::near_a_cliff(rng),
         1 => WheelOrder::drive(velocity, i16::MIN),
         2 => WheelOrder::drive(velocity, -radius),
         _ => WheelOrder::drive(velocity, radius),
@@ -374,9 +375,23 @@ fn near_a_cliff(rng: &mut Rng) -> Board {
     board
 }
 
+/// The same with a Direct order, which has many more cases than a Drive.
+fn direct_near_a_cliff(rng: &mut Rng) -> Board {
+    let mode = rng.pick(&[Mode::Safe, Mode::Safe, Mode::Safe, Mode::Full]);
+    let mut board = good_in(rng, mode);
+    board.wheels = wheels::near_a_cliff(rng);
+    board
+}
+
 /// Records of every sort, each with a few calls after it.
 pub fn records(tape: &mut Tape, rng: &mut Rng) {
     while tape.open() {
+        if rng.one_in(6) {
+            tape.state(&direct_near_a_cliff(rng));
+            let any = rng.byte(0, 7);
+            tape.report(rng.pick(&[2, 2, 2, 2, 2, any]));
+            continue;
+        }
         if rng.one_in(10) {
             tape.state(&near_a_cliff(rng));
             tape.report(rng.pick(&[2, 2, 2, 0, 1, 3, 4, 7]));

@@ -18,7 +18,7 @@ demo : tie.Need-returns-7
 demo c =
     let e = c .before .before .before .before .command2 .given in
     let f : SFits w8 (e .0 .0) = record { sfits = c .before .before .before .known-told2 .given .0 .1 } in
-    let b = (rw (widened f (c .before .before .widen .ensures)) at (c .before .low16 .ensures)) ∙ round-trip16 .low-of-byte _ f in
+    let b = (rw (widened w16 tt f (c .before .before .widen .ensures)) at (c .before .low16 .ensures)) ∙ round-trip16 .low-of-byte _ f in
     head-as (c .head12 .ensures ∙ ap (λ (b : ℕ). headed (136 ∷ b ∷ [])) b) (e .1)
 
 words : tie.Need-returns-11

@@ -9,7 +9,7 @@ use native.Mathlib.Omega.{arith}
 use lib.Dec.{T, leb}
 use lib.IntN.{ℤ}
 use lib.ListN.{length, getD, take}
-use mir.Syntax.{w8}
+use mir.Syntax.{w8, w16}
 use mir.Val.{Fits, SFits}
 use borrow.Author.Needs.{needs}
 use borrow.Author.Tests.{le-leb, lt-leb}
@@ -62,7 +62,7 @@ returns-2 c =
     let e = c .before .before .before .command2 .given in
     let m = asked (c .before .before .before .before .before) in
     let f : SFits w8 (e .0 .0) = record { sfits = c .before .before .known-told2 .given .0 .1 } in
-    (rw (widened f (c .before .widen .ensures)) at (c .is-in .ensures)) ∙ sym (demo-tested _ (m .payload)) ∙ legal-as m (e .1)
+    (rw (widened w16 tt f (c .before .widen .ensures)) at (c .is-in .ensures)) ∙ sym (demo-tested _ (m .payload)) ∙ legal-as m (e .1)
 
 velocity : (c : tie.After-is-speed) → c .is-speed .result ≡ isLegal speed (c .before .before .command3 .given .0 .0)
 velocity c = signed speed (record { sfits = c .before .known-told3 .given .0 .1 }) (c .is-speed .ensures)
