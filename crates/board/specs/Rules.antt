@@ -1,5 +1,6 @@
 -- The rules for every record and every value, in document 01's words: each case of a call beside what it gives. They cite the columns of modes and legal data, the packets
--- and the setters, and none of this crate's own tests. The tables of cases stand at chosen values, and a rule that is wrong between them would pass those.
+-- and the setters, and none of this crate's own tests but `intoCliff`, in laws about it alone. The tables of cases stand at chosen values, and a rule that is wrong between them would
+-- pass those.
 -- Assumes nothing.
 use mathlib.Core.Path.{_≡_}
 use mathlib.Core.Bool.{Bool, true, false, cond, _&&_, _||_}
@@ -142,7 +143,7 @@ pub record ReportRight (s : State) : Type 0 where
       reportOf s false true false ≡ gives 0 (cond (ltZ (pos 0) v || (ltZ v (pos 0) && (ltZ (minus 165) r && ltZ r (pos 165)))) (toPassive s) s)
   pub cliff-direct : s .mode ≡ 2 → s .motors .order ≡ 2 → (ltZ (pos 0) (s .motors .first) || ltZ (pos 0) (s .motors .second)) ≡ true
       → reportOf s false true false ≡ gives 0 (toPassive s)
-  -- document 02, Two: neither above 0, the right wheel backwards by p and the left by q; of p - q and q - p one is 0, so that they are how far apart the two are
+  -- document 02, Two: neither above 0, the right wheel backwards by p and the left by q; p - q and q - p stop at 0, so that their sum is how far apart the two are
   pub cliff-backing : s .mode ≡ 2 → s .motors .order ≡ 2 → (p q : ℕ) → s .motors .first ≡ minus p → s .motors .second ≡ minus q
       → reportOf s false true false ≡ gives 0 (cond (ltb (129 * (p + q)) (165 * (p - q + (q - p)))) (toPassive s) s)
   pub cliff-none : s .motors .order ≡ 0 → reportOf s false true false ≡ gives 0 s

@@ -275,7 +275,8 @@ fn magnitude(n: i32) -> u32
     n as u32
 }
 
-// Backwards round a stair head by Direct. That the two differ is in the comparison: 165 times no difference is above nothing.
+// Backwards round a stair head by Direct. Computed in 32 bits, which hold 165 times the sum or the difference of any two wheels. That the two differ is in the
+// comparison: 165 times no difference is above nothing.
 fn backs_round(right: i16, left: i16) -> bool
     ensures { λ r. ⌜ r ≡ backsRound right left ⌝ }
 {
