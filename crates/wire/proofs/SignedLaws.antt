@@ -7,11 +7,12 @@ use Prim.Native.Nat.{ℕ, zero, suc, _-_, _*_, _^_, _<_, _≤_}
 use native.Mathlib.Nat.{zero-add}
 use native.Mathlib.Omega.{arith}
 use lib.Dec.{T, leb}
-use lib.IntN.{ℤ, pos, negsuc, _-ℤ_}
-use lib.Signed.{ltZ, mag}
+use lib.IntN.{ℤ, pos, negsuc, natAbs, _-ℤ_}
+use lib.Signed.{ltZ, mag, nonNeg}
 use mir.Facts.{toZ-ofZ, toZ-pos, sfits-widen}
 use mir.Syntax.{Width}
-use mir.Val.{hbits, SFits, toZ, ofZ}
+use mir.Val.{hbits, Fits, SFits, toZ, ofZ}
+use mir.ValLaws.{half-full}
 use borrow.Author.Tests.{le-ltb, lt-ltb}
 use Rattle.wire.specs.Signed.{bitsOf, signedOf, RoundTripBits, BytesShown}
 use Rattle.wire.proofs.BoolLaws.{le-or-lt}
@@ -48,6 +49,10 @@ module _ (w : Width) (m : ℕ) (h : m < 2 ^ hbits w) where
   pub flipped-held : toZ w (ofZ w (negsuc 0 -ℤ toZ w m)) ≡ negsuc m
   flipped-held = ap (λ (z : ℤ). toZ w (ofZ w z)) flipped ∙ toZ-ofZ {w = w} {z = negsuc m} (record { sfits = h })
 
+-- what a cast to the same width without a sign asks
+abbrev pub Unsigned : Width → ℤ → Type 0
+Unsigned w z = T (nonNeg z) × Fits w (natAbs z)
+
 module _ {w : Width} (v : ℤ) (f : SFits w v) where
   -- -1 - v, of a number below 0
   module _ (e : ltZ (toZ w (ofZ w v)) (pos 0) ≡ true) where
@@ -63,9 +68,15 @@ module _ {w : Width} (v : ℤ) (f : SFits w v) where
     pub raised-held : toZ w (ofZ w (negsuc 0 -ℤ toZ w (ofZ w v))) ≡ pos (mag v)
     raised-held = ap (λ (z : ℤ). toZ w (ofZ w z)) raised ∙ toZ-pos w (f .sfits)
 
+    pub raised-cast : Unsigned w (toZ w (ofZ w (negsuc 0 -ℤ toZ w (ofZ w v))))
+    raised-cast = rw raised-held (tt, record { fits = half-full w (f .sfits) })
+
   -- and what v is where it is not
   pub above : ltZ (toZ w (ofZ w v)) (pos 0) ≡ false → toZ w (ofZ w v) ≡ pos (mag v)
   above e = toZ-ofZ f ∙ not-below-zero v (rw (toZ-ofZ f) at e)
+
+  pub above-cast : ltZ (toZ w (ofZ w v)) (pos 0) ≡ false → Unsigned w (toZ w (ofZ w v))
+  above-cast e = rw (above e) (tt, record { fits = half-full w (f .sfits) })
 
 -- a number in a width that is no less
 module _ {w : Width} (w′ : Width) {v : ℤ} (wide : T (leb (hbits w) (hbits w′))) (f : SFits w v) where

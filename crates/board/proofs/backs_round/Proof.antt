@@ -4,7 +4,7 @@ use mathlib.Core.Path.{sym, _∙_}
 use mathlib.Core.Bool.{or-true}
 use mathlib.Core.Logic.{⊎-elim}
 use native.Mathlib.Omega.{arith}
-use Prim.Native.Nat.{_*_}
+use Prim.Native.Nat.{_*_, _≤_}
 use lib.Dec.{ltb}
 use lib.IntN.{pos, _+ℤ_, _-ℤ_}
 use lib.Signed.{ltZ}
@@ -34,24 +34,19 @@ add-magnitude c = let f = c .before .before .fits in op-fits _+ℤ_ abs-sum (f .
 sub-magnitude : tie.Need-sub-magnitude
 sub-magnitude c = let f = c .before .before .before .fits in op-fits _-ℤ_ abs-difference (f .right) (f .left)
 
+module _ (c : tie.After-magnitude2) where
+  sum-small : c .before .magnitude .result ≤ 65536
+  sum-small = let f = c .before .before .before .before .fits in op-small _+ℤ_ abs-sum (f .right) (f .left) (c .before .magnitude .ensures)
+
+  difference-small : c .magnitude2 .result ≤ 65536
+  difference-small = let f = c .before .before .before .before .fits in op-small _-ℤ_ abs-difference (f .right) (f .left) (c .magnitude2 .ensures)
+
 -- neither product leaves the 32 bits, whichever it is of
 mul-result : tie.Need-mul-result
-mul-result c =
-    let f = c .before .before .before .before .fits in
-    omega (
-      arith,
-      op-small _+ℤ_ abs-sum (f .right) (f .left) (c .before .magnitude .ensures),
-      op-small _-ℤ_ abs-difference (f .right) (f .left) (c .magnitude2 .ensures),
-    )
+mul-result c = omega (arith, sum-small c, difference-small c)
 
 mul-result-2 : tie.Need-mul-result-2
-mul-result-2 c =
-    let f = c .before .before .before .before .fits in
-    omega (
-      arith,
-      op-small _+ℤ_ abs-sum (f .right) (f .left) (c .before .magnitude .ensures),
-      op-small _-ℤ_ abs-difference (f .right) (f .left) (c .magnitude2 .ensures),
-    )
+mul-result-2 c = omega (arith, sum-small c, difference-small c)
 
 returns-2 : tie.Need-returns-2
 unfolding backsRound
