@@ -7,8 +7,8 @@ use Prim.Native.Nat.{ℕ, zero, suc, _+_, _-_, _*_, _<_, _≤_}
 use native.Mathlib.Nat.{zero-mul, mul-comm, eq-of-mul-eq-mul-right, mul-lt-mul-of-pos-left, mul-le-mul-left}
 use native.Mathlib.Omega.{arith}
 use lib.Dec.{T, ltb, nltb→le}
-use lib.IntN.{ℤ, pos, negsuc, negℤ, natAbs, subℕ, _+ℤ_, _-ℤ_, _*ℤ_, +ℤ-assoc, +ℤ-comm, +ℤ-idl, +ℤ-invr, negℤ-negℤ, negℤ-+ℤ, *ℤ-comm}
-use lib.Signed.{ltZ, mag, natAbs-le}
+use lib.IntN.{ℤ, pos, negsuc, negℤ, natAbs, subℕ, _+ℤ_, _-ℤ_, _*ℤ_, +ℤ-comm, negℤ-+ℤ, *ℤ-comm}
+use lib.Signed.{ltZ, natAbs-le}
 use mir.Facts.{or-no, toZ-ofZ}
 use mir.Syntax.{w16, w32}
 use mir.Val.{SFits, toZ, ofZ}
@@ -16,7 +16,7 @@ use borrow.Author.Tests.{lt-ltb, le-ltb}
 use Rattle.wire.specs.Sixteen.{minus}
 use Rattle.wire.proofs.BoolLaws.{le-or-lt}
 use Rattle.wire.proofs.SignedLaws.{widened}
-use Rattle.wire.proofs.IntLaws.{sum-times, minus-times, abs-minus, abs-times, abs-sub, abs-apart, abs-backwards, abs-sum, abs-exchanged, abs-above, same-factor}
+use Rattle.wire.proofs.IntLaws.{twice, twice-other, sum-times, minus-times, mag-abs, abs-minus, abs-times, abs-sub, abs-apart, abs-backwards, abs-sum, abs-exchanged, abs-above, same-factor}
 use Rattle.state.specs.declared.Motors.{Motors}
 use Rattle.board.specs.Calls.{backsRound, intoCliff}
 
@@ -54,7 +54,7 @@ exchanged a b =
     let differ = or-comm (ltZ a b) (ltZ b a) in
     λ i. above i || (not (above i) && (differ i && ltb (129 * natAbs (+ℤ-comm a b i)) (165 * abs-exchanged a b i)))
 
--- wheels of two directions are tight
+-- where the comparison passes, nothing else is looked at
 covered : (x p t : Bool) → t ≡ true → (x || (not x && t)) ≡ (p || t)
 covered true true t e = refl
 covered true false t e = sym e
@@ -86,6 +86,7 @@ compared a b =
 BySum : ℤ → ℤ → Type 0
 BySum a b = byDirect a b ≡ (ltZ (pos 0) (a +ℤ b) || tight a b)
 
+-- wheels of two directions pass the comparison
 two-ways : (m n : ℕ) → BySum (pos m) (negsuc n)
 unfolding backsRound BySum
 two-ways m n =
@@ -133,10 +134,6 @@ by-slower p q h =
 abbrev wide : ℤ → ℤ
 wide z = toZ w32 (ofZ w32 (toZ w16 (ofZ w16 z)))
 
-mag-abs : (z : ℤ) → mag z ≤ natAbs z
-mag-abs (pos n) = omega arith
-mag-abs (negsuc n) = omega arith
-
 -- the sum, or the difference
 module _ (op : ℤ → ℤ → ℤ) (bound : (x y : ℤ) → natAbs (op x y) ≤ natAbs x + natAbs y) {a b : ℤ} (f : SFits w16 a) (g : SFits w16 b) where
   same : op (wide a) (wide b) ≡ op a b
@@ -158,20 +155,6 @@ module _ (op : ℤ → ℤ → ℤ) (bound : (x y : ℤ) → natAbs (op x y) ≤
 
 -- ---- on a curve
 
--- (x + y) + (x - y)
-twice : (x y : ℤ) → (x +ℤ y) +ℤ (x -ℤ y) ≡ x +ℤ x
-twice x y =
-    ap (λ (z : ℤ). (x +ℤ y) +ℤ z) (+ℤ-comm x (negℤ y))
-    ∙ +ℤ-assoc x y (negℤ y +ℤ x)
-    ∙ ap (λ (z : ℤ). x +ℤ z) (sym (+ℤ-assoc y (negℤ y) x) ∙ ap (λ (z : ℤ). z +ℤ x) (+ℤ-invr y) ∙ +ℤ-idl x)
-
--- (x + y) - (x - y)
-twice-other : (x y : ℤ) → (x +ℤ y) -ℤ (x -ℤ y) ≡ y +ℤ y
-twice-other x y =
-    ap (λ (z : ℤ). (x +ℤ y) +ℤ z) (negℤ-+ℤ x (negℤ y) ∙ ap (λ (z : ℤ). negℤ x +ℤ z) (negℤ-negℤ y) ∙ +ℤ-comm (negℤ x) y)
-    ∙ ap (λ (z : ℤ). z +ℤ (y -ℤ x)) (+ℤ-comm x y)
-    ∙ twice y x
-
 -- a radius strictly between -165 and 165
 inside : (r : ℤ) → (ltZ (minus 165) r && ltZ r (pos 165)) ≡ ltb (natAbs r) 165
 inside (pos n) = refl
@@ -184,6 +167,7 @@ scaled d n m h =
     ⊎-elim (λ (k : m ≤ n). le-ltb (d * n) (d * m) (mul-le-mul-left d k) ∙ sym (le-ltb n m k))
     (λ (k : n < m). lt-ltb (d * n) (d * m) (mul-lt-mul-of-pos-left k h) ∙ sym (lt-ltb n m k)) (le-or-lt m n)
 
+-- no factor of a product above 0 is 0
 some : (d n m : ℕ) → d * n ≡ suc m * 129 → 0 < d
 some zero n m e = omega (arith, zero-mul n)
 some (suc d) n m e = omega arith

@@ -182,7 +182,7 @@ pub record BackingRight (s : State) : Type 0 where
   -- Drive says the same: on a curve of radius r with velocity v the right wheel's speed is v (r + 129) / r and the left's v (r - 129) / r
   pub agree : (v r a b : ℤ) → (r ≡ pos 0 → ⊥) → a *ℤ r ≡ v *ℤ (r +ℤ pos 129) → b *ℤ r ≡ v *ℤ (r -ℤ pos 129)
       → intoCliff (withWheels 2 a b s .motors) ≡ intoCliff (withWheels 1 v r s .motors)
-  -- and so do the two exchanged
+  -- the two exchanged give the same
   pub exchanged : (a b : ℤ) → intoCliff (withWheels 2 a b s .motors) ≡ intoCliff (withWheels 2 b a s .motors)
   -- backwards by p and by q, where p is no faster: in lowest terms
   pub slower : (p q : ℕ) → p ≤ q → intoCliff (withWheels 2 (minus p) (minus q) s .motors) ≡ ltb (49 * p) (6 * q)

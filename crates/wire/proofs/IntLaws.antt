@@ -1,4 +1,4 @@
--- Laws of whole numbers that the library has not: a product of a sum, a common factor, and absolute values.
+-- Laws of whole numbers that the library has not: sums of a sum and a difference, a product of a sum, a common factor, and absolute values.
 -- Assumes nothing.
 use mathlib.Core.Path.{_≡_, refl, sym, ap, _∙_}
 use Prim.Native.Nat.{ℕ, zero, suc, _+_, _-_, _*_, _<_, _≤_}
@@ -6,8 +6,25 @@ use native.Mathlib.Nat.{add-comm, eq-of-mul-eq-mul-right, zero-mul}
 use native.Mathlib.Omega.{arith}
 use lib.Dec.{ltb}
 use lib.IntN.{ℤ, pos, negsuc, negℤ, sucℤ, predℤ, natAbs, subℕ, _+ℤ_, _-ℤ_, _*ℤ_, sucℤ-+ℤ, predℤ-+ℤ, +ℤ-idl, +ℤ-assoc, +ℤ-comm, +ℤ-invr, negℤ-negℤ, negℤ-+ℤ, -ℤ-+ℤ-cancel, zero-*ℤ, sucℤ-*ℤ, predℤ-*ℤ}
+use lib.Signed.{mag}
 use borrow.Author.Tests.{ltb-true, ltb-false}
 use Rattle.wire.proofs.BoolLaws.{cond-is}
+
+-- ---- sums
+
+-- (x + y) + (x - y)
+pub twice : (x y : ℤ) → (x +ℤ y) +ℤ (x -ℤ y) ≡ x +ℤ x
+twice x y =
+    ap (λ (z : ℤ). (x +ℤ y) +ℤ z) (+ℤ-comm x (negℤ y))
+    ∙ +ℤ-assoc x y (negℤ y +ℤ x)
+    ∙ ap (λ (z : ℤ). x +ℤ z) (sym (+ℤ-assoc y (negℤ y) x) ∙ ap (λ (z : ℤ). z +ℤ x) (+ℤ-invr y) ∙ +ℤ-idl x)
+
+-- (x + y) - (x - y)
+pub twice-other : (x y : ℤ) → (x +ℤ y) -ℤ (x -ℤ y) ≡ y +ℤ y
+twice-other x y =
+    ap (λ (z : ℤ). (x +ℤ y) +ℤ z) (negℤ-+ℤ x (negℤ y) ∙ ap (λ (z : ℤ). negℤ x +ℤ z) (negℤ-negℤ y) ∙ +ℤ-comm (negℤ x) y)
+    ∙ ap (λ (z : ℤ). z +ℤ (y -ℤ x)) (+ℤ-comm x y)
+    ∙ twice y x
 
 -- ---- products
 
@@ -56,6 +73,10 @@ minus-times (negsuc m) (pos n) = sym (negℤ-negℤ (pos (suc m * n)))
 minus-times (negsuc m) (negsuc n) = refl
 
 -- ---- absolute values
+
+pub mag-abs : (z : ℤ) → mag z ≤ natAbs z
+mag-abs (pos n) = omega arith
+mag-abs (negsuc n) = omega arith
 
 pub abs-minus : (z : ℤ) → natAbs (negℤ z) ≡ natAbs z
 abs-minus (pos zero) = refl
