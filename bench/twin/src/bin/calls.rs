@@ -31,6 +31,8 @@ fn usage() -> ExitCode {
     let kinds: Vec<&str> = KINDS.iter().map(|(name, _)| *name).collect();
     eprintln!("usage: calls KIND SEED COUNT > FILE");
     eprintln!("KIND: {}", kinds.join(", "));
-    eprintln!("or held-base, held-run:LENGTH, query-list:IDS, malformed:NAME, malformed:list");
+    eprintln!(
+        "or held-base, held-run:LENGTH, query:ID, query-list:IDS, malformed:NAME, malformed:list"
+    );
     ExitCode::from(2)
 }

@@ -23,7 +23,10 @@ pub fn make(name: &str, rng: &mut Rng, count: u64, out: &mut dyn Write) -> io::R
         ("malformed", name, _) => malformed(name, rng, count, out),
         ("held-base", "", _) => held_runs(None, rng, count, out),
         ("held-run", _, Ok(length)) if length <= 510 => held_runs(Some(length), rng, count, out),
-        ("query-list", _, Ok(ids)) if ids <= 16 => query_lists(ids, rng, count, out),
+        ("query", _, Ok(id)) if id <= 42 => queries(|| vec![142, id as u8], count, out),
+        ("query-list", _, Ok(ids)) if ids <= 16 => {
+            queries(|| list_of_packets(ids, rng), count, out)
+        }
         _ => Ok(false),
     }
 }
@@ -56,16 +59,25 @@ fn held_runs(
     Ok(true)
 }
 
-/// A Start, and then queries of so many single packets.
-fn query_lists(ids: usize, rng: &mut Rng, count: u64, out: &mut dyn Write) -> io::Result<bool> {
+/// A Start, and then these queries, each a run of its own.
+fn queries(
+    mut frame: impl FnMut() -> Vec<u8>,
+    count: u64,
+    out: &mut dyn Write,
+) -> io::Result<bool> {
     let mut tape = Tape::new(out, count);
     tape.byte(128);
     while tape.open() {
-        let mut frame = vec![149, ids as u8];
-        frame.extend((0..ids).map(|_| rng.byte(7, 42)));
-        tape.run(&frame);
+        tape.run(&frame());
     }
     tape.finish().map(|()| true)
+}
+
+/// A query of so many single packets.
+fn list_of_packets(ids: usize, rng: &mut Rng) -> Vec<u8> {
+    let mut frame = vec![149, ids as u8];
+    frame.extend((0..ids).map(|_| rng.byte(7, 42)));
+    frame
 }
 
 /// Valid traffic, a record at fault, and more valid calls where the fault isn't
