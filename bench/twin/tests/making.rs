@@ -79,7 +79,17 @@ fn fixed_forms() {
     for ids in ["1", "16"] {
         assert_eq!(calls(&made(&format!("query-list:{ids}"), 1, 20)), 20);
     }
-    for unknown in ["", "vali", "held-run:511", "query-list:17", "malformed:x"] {
+    for id in [0, 6, 7, 42] {
+        assert_eq!(calls(&made(&format!("query:{id}"), 1, 20)), 20);
+    }
+    for unknown in [
+        "",
+        "vali",
+        "held-run:511",
+        "query:43",
+        "query-list:17",
+        "malformed:x",
+    ] {
         assert!(!make(unknown, 1, 1, &mut Vec::new()).unwrap(), "{unknown}");
     }
 }
