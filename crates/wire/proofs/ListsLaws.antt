@@ -15,7 +15,7 @@ use lib.Seq.{drop-cons, set-append-seam, getD-drop}
 use mir.Facts.{and-yes, or-yes, yes-and, yes-ltb, yes-eqb}
 use borrow.Author.Tests.{lt-ltb, eq-eqb}
 use Rattle.wire.proofs.BoolLaws.{and-swap, or-zero}
-use Rattle.wire.specs.Lists.{all, allFrom, span, sum, among, snoc, padded, sameList, isZero, isByte, allZero, allBytes, byteArray}
+use Rattle.wire.specs.Lists.{all, allFrom, span, fromTo, sum, among, snoc, padded, sameList, isZero, isByte, allZero, allBytes, byteArray}
 
 -- ---- lists from an index on
 
@@ -41,6 +41,10 @@ span-next p end h = let e : end - p ≡ suc (end - (p + 1)) = omega arith in rw 
 
 pub span-end : (p end : ℕ) → end ≤ p → span p (end - p) ≡ []
 span-end p end h = let e : end - p ≡ 0 = omega arith in rw e refl
+
+-- from a number to itself
+pub from-to-one : (a : ℕ) → fromTo a a ≡ a ∷ []
+from-to-one a = let e : a + 1 - a ≡ 1 = omega arith in rw e refl
 
 pub span-snoc : (a n : ℕ) → span a (suc n) ≡ snoc (span a n) (a + n)
 span-snoc a zero = let e : a ≡ a + 0 = omega arith in ap (λ (k : ℕ). k ∷ []) e
