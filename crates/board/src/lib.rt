@@ -17,7 +17,7 @@ ghost use mathlib.Core.Path.{_≡_};
 ghost use mathlib.Core.Bool.{true, cond, _&&_};
 ghost use mathlib.Core.List.{[], _∷_};
 ghost use Prim.Native.Nat.{_<_};
-ghost use lib.IntN.{pos, natAbs};
+ghost use lib.IntN.{pos};
 ghost use lib.Signed.{ltZ};
 ghost use lib.ListN.{length, drop};
 ghost use Rattle.wire.specs.Sixteen.{minus};
@@ -265,16 +265,6 @@ fn backs_tightly(velocity: i16, radius: i16) -> bool
     velocity < 0 && (-165 < radius && radius < 165)
 }
 
-// A number without its sign.
-fn magnitude(n: i32) -> u32
-    ensures { λ r. ⌜ r ≡ natAbs n ⌝ }
-{
-    if n < 0 {
-        return ((-1 - n) as u32) + 1;
-    }
-    n as u32
-}
-
 // Backwards round a stair head by Direct. Computed in 32 bits, which hold 165 times the sum or the difference of any two wheels. That the two differ is in the
 // comparison: 165 times no difference is above nothing.
 fn backs_round(right: i16, left: i16) -> bool
@@ -285,8 +275,8 @@ fn backs_round(right: i16, left: i16) -> bool
     }
     let r = right as i32;
     let l = left as i32;
-    let sum = magnitude(r + l);
-    let difference = magnitude(r - l);
+    let sum = wire::magnitude(r + l);
+    let difference = wire::magnitude(r - l);
     129 * sum < 165 * difference
 }
 

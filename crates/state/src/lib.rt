@@ -140,7 +140,7 @@ fn off_unless_driven(mode: u8, motors: Motors) -> bool
 }
 
 // The kind is one that is named, and its numbers are legal; those of no order may be anything.
-fn wheels_ok(motors: Motors) -> bool
+pub fn wheels_ok(motors: Motors) -> bool
     ensures { λ r. ⌜ r ≡ (orderNamed motors && wheelsLegal motors) ⌝ }
 {
     let order = motors.order;

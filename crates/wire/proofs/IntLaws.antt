@@ -1,12 +1,12 @@
--- Laws of whole numbers that the library has not: sums of a sum and a difference, a product of a sum, a common factor, and absolute values.
+-- Laws of whole numbers that the library has not: sums of a sum and a difference, products, absolute values, quotients, and a common factor.
 -- Assumes nothing.
 use mathlib.Core.Path.{_≡_, refl, sym, ap, _∙_}
-use Prim.Native.Nat.{ℕ, zero, suc, _+_, _-_, _*_, _<_, _≤_}
+use Prim.Native.Nat.{ℕ, zero, suc, _+_, _-_, _*_, _/_, _%_, _<_, _≤_}
 use native.Mathlib.Nat.{add-comm, eq-of-mul-eq-mul-right, zero-mul}
 use native.Mathlib.Omega.{arith}
 use lib.Dec.{ltb}
-use lib.IntN.{ℤ, pos, negsuc, negℤ, sucℤ, predℤ, natAbs, subℕ, _+ℤ_, _-ℤ_, _*ℤ_, sucℤ-+ℤ, predℤ-+ℤ, +ℤ-idl, +ℤ-assoc, +ℤ-comm, +ℤ-invr, negℤ-negℤ, negℤ-+ℤ, -ℤ-+ℤ-cancel, zero-*ℤ, sucℤ-*ℤ, predℤ-*ℤ}
-use lib.Signed.{mag}
+use lib.IntN.{ℤ, pos, negsuc, negℤ, sucℤ, predℤ, natAbs, subℕ, _+ℤ_, _-ℤ_, _*ℤ_, sucℤ-+ℤ, predℤ-+ℤ, +ℤ-idl, +ℤ-assoc, +ℤ-comm, +ℤ-invr, negℤ-negℤ, negℤ-+ℤ, -ℤ-+ℤ-cancel, zero-*ℤ, sucℤ-*ℤ, predℤ-*ℤ, *ℤ-comm}
+use lib.Signed.{mag, quotZ, remZ}
 use borrow.Author.Tests.{ltb-true, ltb-false}
 use Rattle.wire.proofs.BoolLaws.{cond-is}
 
@@ -72,6 +72,12 @@ minus-times (pos (suc m)) (negsuc n) = sym (negℤ-negℤ (pos (suc m * suc n)))
 minus-times (negsuc m) (pos n) = sym (negℤ-negℤ (pos (suc m * n)))
 minus-times (negsuc m) (negsuc n) = refl
 
+pub times-minus : (m k : ℤ) → m *ℤ negℤ k ≡ negℤ (m *ℤ k)
+times-minus m k = *ℤ-comm m (negℤ k) ∙ minus-times k m ∙ ap negℤ (*ℤ-comm k m)
+
+pub both-minus : (m k : ℤ) → negℤ m *ℤ negℤ k ≡ m *ℤ k
+both-minus m k = minus-times m (negℤ k) ∙ ap negℤ (times-minus m k) ∙ negℤ-negℤ (m *ℤ k)
+
 -- ---- absolute values
 
 pub mag-abs : (z : ℤ) → mag z ≤ natAbs z
@@ -126,6 +132,18 @@ pub abs-above : (z : ℤ) → (z ≡ pos 0 → ⊥) → 0 < natAbs z
 abs-above (pos zero) n = absurd (n refl)
 abs-above (pos (suc m)) n = omega arith
 abs-above (negsuc m) n = omega arith
+
+-- ---- quotients, rounded toward zero, and their remainders
+
+pub quot-abs : (n d : ℤ) → natAbs (quotZ n d) ≡ natAbs n / natAbs d
+quot-abs (pos a) (pos b) = refl
+quot-abs (pos a) (negsuc b) = abs-minus (pos (a / suc b))
+quot-abs (negsuc a) (pos b) = abs-minus (pos (suc a / b))
+quot-abs (negsuc a) (negsuc b) = refl
+
+pub rem-abs : (n d : ℤ) → natAbs (remZ n d) ≡ natAbs n % natAbs d
+rem-abs (pos a) d = refl
+rem-abs (negsuc a) d = abs-minus (pos (suc a % natAbs d))
 
 -- ---- a common factor
 

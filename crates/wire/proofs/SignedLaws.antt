@@ -4,11 +4,12 @@ use mathlib.Core.Path.{_≡_, refl, sym, ap, _∙_}
 use mathlib.Core.Bool.{true, false}
 use mathlib.Core.Logic.{⊎-elim}
 use Prim.Native.Nat.{ℕ, zero, suc, _-_, _*_, _^_, _<_, _≤_}
-use native.Mathlib.Nat.{zero-add}
+use native.Mathlib.Nat.{zero-add, eq-zero-or-pos, div-le-self}
 use native.Mathlib.Omega.{arith}
 use lib.Dec.{T, leb}
 use lib.IntN.{ℤ, pos, negsuc, natAbs, _-ℤ_}
-use lib.Signed.{ltZ, mag, nonNeg}
+use lib.Pow.{pow-pos}
+use lib.Signed.{ltZ, mag, mag-rem, nonNeg, quotZ, remZ}
 use mir.Facts.{toZ-ofZ, toZ-pos, sfits-widen}
 use mir.Syntax.{Width}
 use mir.Val.{hbits, Fits, SFits, toZ, ofZ}
@@ -16,6 +17,7 @@ use mir.ValLaws.{half-full}
 use borrow.Author.Tests.{le-ltb, lt-ltb}
 use Rattle.wire.specs.Signed.{bitsOf, signedOf, RoundTripBits, BytesShown}
 use Rattle.wire.proofs.BoolLaws.{le-or-lt}
+use Rattle.wire.proofs.IntLaws.{mag-abs, quot-abs}
 
 -- ---- -1 - z
 
@@ -85,6 +87,35 @@ module _ {w : Width} (w′ : Width) {v : ℤ} (wide : T (leb (hbits w) (hbits w�
 
   pub widened : {r : ℤ} → r ≡ toZ w (ofZ w v) → toZ w′ (ofZ w′ r) ≡ v
   widened e = ap (λ (z : ℤ). toZ w′ (ofZ w′ z)) (e ∙ toZ-ofZ f) ∙ toZ-ofZ (sfits-widen wide f)
+
+-- the machine's division of n by d
+module _ {w : Width} {n d : ℤ} (f : SFits w n) (g : SFits w d) where
+  -- of the numbers that the bits stand for
+  of-bits : (op : ℤ → ℤ → ℤ) → op (toZ w (ofZ w n)) (toZ w (ofZ w d)) ≡ op n d
+  of-bits op i = op (toZ-ofZ f i) (toZ-ofZ g i)
+
+  -- a divisor other than 0 has bits other than 0
+  divisor : 0 < natAbs d → 0 < ofZ w d
+  divisor h =
+      ⊎-elim
+      (λ (e : ofZ w d ≡ 0). let none = sym (toZ-ofZ g) ∙ ap (toZ w) e ∙ toZ-pos w (pow-pos (hbits w)) in omega (arith, h, ap natAbs none))
+      (λ (p : 0 < ofZ w d). p) (eq-zero-or-pos (ofZ w d))
+
+  -- the quotient of the least number by -1 alone has no room
+  module _ (k : natAbs n < 2 ^ hbits w) where
+    quotient-fits : SFits w (quotZ n d)
+    quotient-fits = record { sfits = omega (arith, k, mag-abs (quotZ n d), quot-abs n d, div-le-self (natAbs n) (natAbs d)) }
+
+    -- what a division and its remainder ask
+    pub division-asks : 0 < natAbs d → (0 < ofZ w d) × SFits w (quotZ (toZ w (ofZ w n)) (toZ w (ofZ w d)))
+    division-asks h = (divisor h, rw (of-bits quotZ) quotient-fits)
+
+    pub quotient-held : toZ w (ofZ w (quotZ (toZ w (ofZ w n)) (toZ w (ofZ w d)))) ≡ quotZ n d
+    quotient-held = ap (λ (z : ℤ). toZ w (ofZ w z)) (of-bits quotZ) ∙ toZ-ofZ quotient-fits
+
+  pub remainder-held : toZ w (ofZ w (remZ (toZ w (ofZ w n)) (toZ w (ofZ w d)))) ≡ remZ n d
+  remainder-held =
+      ap (λ (z : ℤ). toZ w (ofZ w z)) (of-bits remZ) ∙ toZ-ofZ (record { sfits = omega (arith, f .sfits, mag-rem n d) })
 
 -- ---- the round trip
 

@@ -1,12 +1,12 @@
--- `board::magnitude` meets its contract: n below 0 is -(m + 1), so that -1 - n is m.
+-- `wire::magnitude` meets its contract: n below 0 is -(m + 1), so that -1 - n is m.
 -- Assumes nothing.
 use mathlib.Core.Path.{sym, ap}
 use native.Mathlib.Omega.{arith}
 use borrow.Author.Needs.{needs}
 use lib.IntN.{natAbs}
 use Rattle.wire.proofs.SignedLaws.{below, raised-fits, raised-held, raised-cast, above-cast}
-use Rattle.board.proofs.magnitude.Statement.{statement}
-use Rattle.board.proofs.magnitude.Tie as tie
+use Rattle.wire.proofs.magnitude.Statement.{statement}
+use Rattle.wire.proofs.magnitude.Tie as tie
 
 add-result : tie.Need-add-result
 add-result c = rw (raised-held _ (c .before .fits .n) (c .if1 .taken)) (omega (arith, c .before .fits .n .sfits))

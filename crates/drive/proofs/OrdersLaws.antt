@@ -1,0 +1,115 @@
+-- Laws of the speeds: by the radius, and in 32 bits.
+-- Assumes nothing.
+use mathlib.Core.Path.{_≡_, refl, sym, ap, subst, _∙_}
+use mathlib.Core.Bool.{true, false, _&&_}
+use Prim.Native.Nat.{ℕ, _≤_, _<_}
+use native.Mathlib.Omega.{arith}
+use lib.Dec.{T}
+use lib.IntN.{ℤ, pos, negsuc, negℤ, natAbs}
+use lib.ListN.{replicate}
+use lib.Signed.{ltZ}
+use mir.Syntax.{w16, w32}
+use mir.Val.{SFits, toZ, ofZ}
+use borrow.Author.Tests.{ltb-false, ne-eqb}
+use Rattle.wire.specs.Sixteen.{minus}
+use Rattle.wire.proofs.BoolLaws.{both, cond-true, cond-false}
+use Rattle.wire.proofs.IntLaws.{mag-abs, abs-above}
+use Rattle.wire.proofs.SignedLaws.{widened}
+use Rattle.command.specs.Commands.{isSpeed, isRadius}
+use Rattle.command.proofs.CommandTableLaws.{drive-legal, direct-legal}
+use Rattle.state.specs.Accepted.{orderNamed, wheelsLegal}
+use Rattle.state.specs.Same.{sameNumber}
+use Rattle.drive.specs.Rounding.{nearestOf}
+use Rattle.drive.specs.Orders.{wheels, rightTimes, leftTimes, curveOf, wheelsBy, given, refused, legalOrder, speedsOf}
+use Rattle.drive.specs.declared.Wheels.{Wheels}
+
+-- ---- by the radius
+
+module _ (v r : ℤ) where
+  pub on-one : r ≡ pos 1 → curveOf v r ≡ wheels v (negℤ v)
+  unfolding curveOf
+  on-one e = rw e refl
+
+  pub on-minus-one : r ≡ minus 1 → curveOf v r ≡ wheels (negℤ v) v
+  unfolding curveOf
+  on-minus-one e = rw e refl
+
+  pub on-straight : r ≡ pos 32767 → curveOf v r ≡ wheels v v
+  unfolding curveOf
+  on-straight e = rw e refl
+
+  pub on-least : r ≡ minus 32768 → curveOf v r ≡ wheels v v
+  unfolding curveOf
+  on-least e = rw e refl
+
+  pub on-plain : sameNumber r (pos 1) ≡ false → sameNumber r (minus 1) ≡ false → sameNumber r (pos 32767) ≡ false → sameNumber r (minus 32768) ≡ false
+      → curveOf v r ≡ wheels (nearestOf (rightTimes v r) r) (nearestOf (leftTimes v r) r)
+  unfolding curveOf
+  on-plain a b c d = rw (a, b, c, d) refl
+
+-- ---- which orders are legal
+
+pub legal-none : (a b : ℤ) → legalOrder 0 a b ≡ true
+unfolding orderNamed wheelsLegal
+legal-none a b = refl
+
+pub legal-drive : (v r : ℤ) → legalOrder 1 v r ≡ (isSpeed v && isRadius r)
+unfolding orderNamed wheelsLegal
+legal-drive v r = drive-legal v r (replicate 32 0)
+
+pub legal-direct : (a b : ℤ) → legalOrder 2 a b ≡ (isSpeed a && isSpeed b)
+unfolding orderNamed wheelsLegal
+legal-direct a b = direct-legal a b (replicate 32 0)
+
+pub legal-unnamed : (kind : ℕ) (a b : ℤ) → 2 < kind → legalOrder kind a b ≡ false
+unfolding orderNamed wheelsLegal
+legal-unnamed kind a b h =
+    simp (ne-eqb kind 0 (λ (e : kind ≡ 0). omega arith), ne-eqb kind 1 (λ (e : kind ≡ 1). omega arith), ne-eqb kind 2 (λ (e : kind ≡ 2). omega arith))
+
+-- a legal radius is not 0
+pub radius-above : (v r : ℤ) → legalOrder 1 v r ≡ true → 0 < natAbs r
+radius-above v r e =
+    let legal = both (isSpeed v) (isRadius r) (sym (legal-drive v r) ∙ e) .1 in
+    abs-above r (λ (z : r ≡ pos 0). absurd (subst T (sym legal ∙ ap isRadius z) tt))
+
+-- ---- the cap
+
+-- neither above nor below is within
+pub within-cap : (s : ℤ) → ltZ (pos 500) s ≡ false → ltZ s (minus 500) ≡ false → natAbs s ≤ 500
+within-cap (pos n) e f = ltb-false 500 n e
+within-cap (negsuc n) e f = let h = ltb-false 499 n f in omega arith
+
+-- ---- what comes back
+
+module _ (kind : ℕ) (a b : ℤ) where
+  pub speeds-refused : legalOrder kind a b ≡ false → speedsOf kind a b ≡ refused
+  unfolding speedsOf
+  speeds-refused e = cond-false (legalOrder kind a b) (given (wheelsBy kind a b)) refused e
+
+  pub speeds-given : legalOrder kind a b ≡ true → {w : Wheels} → wheelsBy kind a b ≡ w → speedsOf kind a b ≡ given w
+  unfolding speedsOf
+  speeds-given e g = cond-true (legalOrder kind a b) (given (wheelsBy kind a b)) refused e ∙ ap given g
+
+  pub by-drive : kind ≡ 1 → wheelsBy kind a b ≡ curveOf a b
+  by-drive e = rw e refl
+
+  pub by-direct : kind ≡ 2 → wheelsBy kind a b ≡ wheels a b
+  by-direct e = rw e refl
+
+  pub by-none : (kind ≡ 1 → ⊥) → (kind ≡ 2 → ⊥) → wheelsBy kind a b ≡ wheels (pos 0) (pos 0)
+  by-none n m = simp (ne-eqb kind 1 n, ne-eqb kind 2 m)
+
+-- ---- in 32 bits
+
+-- a number as the machine has it there, and one of sixteen
+abbrev pub held : ℤ → ℤ
+held z = toZ w32 (ofZ w32 z)
+
+abbrev pub wide : ℤ → ℤ
+wide z = held (toZ w16 (ofZ w16 z))
+
+pub small : {z : ℤ} → natAbs z < 2147483648 → SFits w32 z
+small {z} h = record { sfits = omega (arith, mag-abs z, h) }
+
+pub same : {v : ℤ} → SFits w16 v → wide v ≡ v
+same f = widened w32 tt f refl

@@ -1,0 +1,151 @@
+// From a wheel order to a speed for each wheel (document 02, Four): what the motor stage wants.
+//
+//     no order                  0 and 0
+//     Drive, radius r           right v(r + 129)/r, left v(r - 129)/r, each the nearest whole number, halves away from zero
+//     Drive, radius 1           counterclockwise: right v, left -v
+//     Drive, radius -1          clockwise: right -v, left v
+//     Drive, 32767, -32768      straight: both v
+//     Direct                    as it is
+//
+// then each is capped to -500 and 500. An order that document 01 calls illegal is refused with 4.
+ghost use mathlib.Core.Path.{_≡_};
+ghost use Prim.Native.Nat.{_<_, _≤_};
+ghost use lib.IntN.{natAbs, _+ℤ_, _*ℤ_};
+ghost use Rattle.drive.specs.Rounding.{nearestOf};
+ghost use Rattle.drive.specs.Orders.{curveOf, beyond, capOf, given, refused, speedsOf};
+use state::Motors;
+
+// Half of the 258 mm between the wheel centres.
+const HALF_TRACK: i32 = 129;
+
+// The fastest that a wheel turns, either way.
+const FASTEST: i32 = 500;
+
+const DONE: u8 = 0;
+
+// Document 01's number, the speed of each wheel in mm/s, and whether either was capped. With a refusal's number the speeds are 0.
+#[repr(C)]
+pub struct Speeds {
+    pub number: u8,
+    pub right: i16,
+    pub left: i16,
+    pub capped: bool,
+}
+
+// Both wheels' speeds before the cap.
+struct Wheels {
+    right: i32,
+    left: i32,
+}
+
+// n / d to the nearest whole number, halves away from zero.
+fn nearest(n: i32, d: i32) -> i32
+    requires { ⌜ 0 < natAbs d ⌝ }
+    requires { ⌜ natAbs n < 2147483647 ⌝ }
+    ensures { λ r. ⌜ r ≡ nearestOf n d ⌝ }
+{
+    let quotient = n / d;
+    if 2 * wire::magnitude(n % d) < wire::magnitude(d) {
+        return quotient;
+    }
+    if (n < 0) == (d < 0) {
+        quotient + 1
+    } else {
+        quotient - 1
+    }
+}
+
+// The speed of a wheel that stands so far to the right of the middle, on a plain radius.
+fn on_curve(velocity: i16, radius: i16, offset: i32) -> i32
+    requires { ⌜ 0 < natAbs radius ⌝ }
+    requires { ⌜ natAbs offset ≤ 129 ⌝ }
+    ensures { λ r. ⌜ r ≡ nearestOf (velocity *ℤ (radius +ℤ offset)) radius ⌝ }
+{
+    let v = velocity as i32;
+    let r = radius as i32;
+    nearest(v * (r + offset), r)
+}
+
+// Both wheels by velocity and radius.
+fn curve(velocity: i16, radius: i16) -> Wheels
+    requires { ⌜ 0 < natAbs radius ⌝ }
+    ensures { λ r. ⌜ r ≡ curveOf velocity radius ⌝ }
+{
+    let v = velocity as i32;
+    match radius {
+        1 => Wheels { right: v, left: -v },
+        -1 => Wheels { right: -v, left: v },
+        32767 | -32768 => Wheels { right: v, left: v },
+        _ => Wheels {
+            right: on_curve(velocity, radius, HALF_TRACK),
+            left: on_curve(velocity, radius, -HALF_TRACK),
+        },
+    }
+}
+
+fn is_beyond(speed: i32) -> bool
+    ensures { λ r. ⌜ r ≡ beyond speed ⌝ }
+{
+    wire::magnitude(speed) > 500
+}
+
+fn cap(speed: i32) -> i16
+    ensures { λ r. ⌜ r ≡ capOf speed ⌝ }
+{
+    if speed > FASTEST {
+        return 500;
+    }
+    if speed < -FASTEST {
+        return -500;
+    }
+    speed as i16
+}
+
+// Each wheel capped alone.
+fn cap_both(wheels: Wheels) -> Speeds
+    ensures { λ r. ⌜ r ≡ given wheels ⌝ }
+{
+    let right = wheels.right;
+    let left = wheels.left;
+    Speeds {
+        number: DONE,
+        right: cap(right),
+        left: cap(left),
+        capped: is_beyond(right) || is_beyond(left),
+    }
+}
+
+fn refuse() -> Speeds
+    ensures { λ r. ⌜ r ≡ refused ⌝ }
+{
+    Speeds {
+        number: wire::NOT_LEGAL,
+        right: 0,
+        left: 0,
+        capped: false,
+    }
+}
+
+// A wheel order as the state record has it: its kind and its two numbers.
+#[no_mangle]
+pub extern "C" fn wheel_speeds(kind: u8, first: i16, second: i16) -> Speeds
+    ensures { λ r. ⌜ r ≡ speedsOf kind first second ⌝ }
+{
+    let order = Motors {
+        order: kind,
+        first,
+        second,
+        duties: [0u8; 3],
+    };
+    if !state::wheels_ok(order) {
+        return refuse();
+    }
+    match kind {
+        state::DRIVE => cap_both(curve(first, second)),
+        state::DIRECT => cap_both(Wheels {
+            right: first as i32,
+            left: second as i32,
+        }),
+        _ => cap_both(Wheels { right: 0, left: 0 }),
+    }
+}
