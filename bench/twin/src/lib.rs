@@ -9,6 +9,7 @@ pub mod board;
 pub mod check;
 pub mod command;
 pub mod cover;
+pub mod drive;
 pub mod file;
 pub mod frame;
 pub mod layout;
