@@ -1,2 +1,3 @@
 pub mod RoundingLaws
 pub mod OrdersLaws
+pub mod StageProved

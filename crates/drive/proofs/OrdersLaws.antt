@@ -1,27 +1,29 @@
 -- Laws of the speeds: by the radius, and in 32 bits.
 -- Assumes nothing.
 use mathlib.Core.Path.{_≡_, refl, sym, ap, subst, _∙_}
-use mathlib.Core.Bool.{true, false, _&&_}
-use Prim.Native.Nat.{ℕ, _≤_, _<_}
+use mathlib.Core.Bool.{Bool, true, false, cond, _&&_, _||_}
+use mathlib.Core.Logic.{⊎-elim}
+use Prim.Native.Nat.{ℕ, zero, suc, _≤_, _<_}
 use native.Mathlib.Omega.{arith}
 use lib.Dec.{T}
-use lib.IntN.{ℤ, pos, negsuc, negℤ, natAbs}
+use lib.IntN.{ℤ, pos, negsuc, negℤ, natAbs, _+ℤ_, _-ℤ_, _*ℤ_, negℤ-negℤ}
 use lib.ListN.{replicate}
 use lib.Signed.{ltZ}
 use mir.Syntax.{w16, w32}
 use mir.Val.{SFits, toZ, ofZ}
-use borrow.Author.Tests.{ltb-false, ne-eqb}
+use borrow.Author.Tests.{lt-ltb, le-ltb, ltb-true, ltb-false, ne-eqb}
 use Rattle.wire.specs.Sixteen.{minus}
-use Rattle.wire.proofs.BoolLaws.{both, cond-true, cond-false}
-use Rattle.wire.proofs.IntLaws.{mag-abs, abs-above}
+use Rattle.wire.proofs.BoolLaws.{le-or-lt, both, cond-true, cond-false, cond-is}
+use Rattle.wire.proofs.IntLaws.{minus-times, mag-abs, abs-above}
 use Rattle.wire.proofs.SignedLaws.{widened}
 use Rattle.command.specs.Commands.{isSpeed, isRadius}
 use Rattle.command.proofs.CommandTableLaws.{drive-legal, direct-legal}
 use Rattle.state.specs.Accepted.{orderNamed, wheelsLegal}
 use Rattle.state.specs.Same.{sameNumber}
 use Rattle.drive.specs.Rounding.{nearestOf}
-use Rattle.drive.specs.Orders.{wheels, rightTimes, leftTimes, curveOf, wheelsBy, given, refused, legalOrder, speedsOf}
+use Rattle.drive.specs.Orders.{wheels, rightTimes, leftTimes, curveOf, wheelsBy, beyond, capOf, given, refused, legalOrder, speedsOf}
 use Rattle.drive.specs.declared.Wheels.{Wheels}
+use Rattle.drive.proofs.RoundingLaws.{nearest-odd}
 
 -- ---- by the radius
 
@@ -46,6 +48,28 @@ module _ (v r : ℤ) where
       → curveOf v r ≡ wheels (nearestOf (rightTimes v r) r) (nearestOf (leftTimes v r) r)
   unfolding curveOf
   on-plain a b c d = rw (a, b, c, d) refl
+
+-- backwards
+abbrev pub turned : Wheels → Wheels
+turned w = wheels (negℤ (w .right)) (negℤ (w .left))
+
+pub curve-odd : (v r : ℤ) → curveOf (negℤ v) r ≡ turned (curveOf v r)
+unfolding curveOf
+curve-odd v r = by-tests (sameNumber r (pos 1)) (sameNumber r (minus 1)) (sameNumber r (pos 32767) || sameNumber r (minus 32768))
+  where
+    times-odd : (f : ℤ) → nearestOf (negℤ v *ℤ f) r ≡ negℤ (nearestOf (v *ℤ f) r)
+    times-odd f = ap (λ (n : ℤ). nearestOf n r) (minus-times v f) ∙ nearest-odd (v *ℤ f) r
+
+    plain : ℤ → Wheels
+    plain x = wheels (nearestOf (rightTimes x r) r) (nearestOf (leftTimes x r) r)
+
+    by-tests : (a b c : Bool)
+        → cond a (wheels (negℤ v) (negℤ (negℤ v))) (cond b (wheels (negℤ (negℤ v)) (negℤ v)) (cond c (wheels (negℤ v) (negℤ v)) (plain (negℤ v))))
+        ≡ turned (cond a (wheels v (negℤ v)) (cond b (wheels (negℤ v) v) (cond c (wheels v v) (plain v))))
+    by-tests true b c = refl
+    by-tests false true c = refl
+    by-tests false false true = refl
+    by-tests false false false = λ i. wheels (times-odd (r +ℤ pos 129) i) (times-odd (r -ℤ pos 129) i)
 
 -- ---- which orders are legal
 
@@ -74,10 +98,43 @@ radius-above v r e =
 
 -- ---- the cap
 
+pub cap-above : (s : ℤ) → ltZ (pos 500) s ≡ true → (capOf s ≡ pos 500) × (beyond s ≡ true)
+cap-above s e = (simp e, far s e)
+  where
+    far : (s : ℤ) → ltZ (pos 500) s ≡ true → beyond s ≡ true
+    far (pos n) e = e
+    far (negsuc n) e = absurd (subst T (sym e) tt)
+
+pub cap-below : (s : ℤ) → ltZ s (minus 500) ≡ true → (capOf s ≡ minus 500) × (beyond s ≡ true)
+cap-below (pos n) e = absurd (subst T (sym e) tt)
+cap-below (negsuc n) e = (simp e, lt-ltb 500 (suc n) (let h = ltb-true 499 n e in omega arith))
+
 -- neither above nor below is within
 pub within-cap : (s : ℤ) → ltZ (pos 500) s ≡ false → ltZ s (minus 500) ≡ false → natAbs s ≤ 500
 within-cap (pos n) e f = ltb-false 500 n e
 within-cap (negsuc n) e f = let h = ltb-false 499 n f in omega arith
+
+pub cap-inside : (s : ℤ) → ltZ (pos 500) s ≡ false → ltZ s (minus 500) ≡ false → (capOf s ≡ s) × (beyond s ≡ false)
+cap-inside s e f = (simp (e, f), le-ltb 500 (natAbs s) (within-cap s e f))
+
+-- a speed above, below, or within the cap
+by-cap : (P : ℤ → Type 0) (s : ℤ) → P (pos 500) → P (minus 500) → (natAbs s ≤ 500 → P s) → P (capOf s)
+by-cap P s a b c =
+    cond-is P (ltZ (pos 500) s) (λ e. a)
+    (λ e. cond-is P (ltZ s (minus 500)) (λ f. b) (λ f. c (within-cap s e f)))
+
+pub cap-bounded : (s : ℤ) → natAbs (capOf s) ≤ 500
+cap-bounded s = by-cap (λ z. natAbs z ≤ 500) s (omega arith) (omega arith) (λ h. h)
+
+cap-minus : (n : ℕ) → capOf (pos (suc n)) ≡ negℤ (capOf (negsuc n))
+cap-minus n =
+    ⊎-elim (λ (h : n ≤ 499). simp (le-ltb 500 (suc n) (omega arith), le-ltb 499 n h))
+    (λ (h : 499 < n). simp (lt-ltb 500 (suc n) (omega arith), lt-ltb 499 n h)) (le-or-lt n 499)
+
+pub cap-odd : (s : ℤ) → capOf (negℤ s) ≡ negℤ (capOf s)
+cap-odd (pos zero) = refl
+cap-odd (pos (suc n)) = sym (ap negℤ (cap-minus n) ∙ negℤ-negℤ (capOf (negsuc n)))
+cap-odd (negsuc n) = cap-minus n
 
 -- ---- what comes back
 

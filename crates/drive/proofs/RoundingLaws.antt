@@ -4,7 +4,7 @@ use mathlib.Core.Path.{_≡_, refl, sym, ap, subst, _∙_}
 use mathlib.Core.Bool.{Bool, true, false, not, Bool·beq}
 use mathlib.Core.Logic.{_⊎_, inl, inr, ⊎-elim}
 use Prim.Native.Nat.{ℕ, zero, suc, _+_, _-_, _*_, _/_, _%_, _≤_, _<_}
-use native.Mathlib.Nat.{mul-comm, mul-assoc, mul-add, mul-one, mul-div-le, lt-mul-div-succ, div-add-mod, div-eq-of-lt-le, mul-le-mul-left, eq-or-lt-of-le, eq-zero-or-pos, mod-lt, mul-zero}
+use native.Mathlib.Nat.{mul-comm, mul-assoc, mul-add, mul-one, mul-div-le, lt-mul-div-succ, div-add-mod, div-eq-of-lt, div-eq-of-lt-le, mul-le-mul-left, eq-or-lt-of-le, eq-zero-or-pos, mod-lt, mul-zero}
 use native.Mathlib.Omega.{arith}
 use lib.IntN.{ℤ, pos, negsuc, negℤ, natAbs, _+ℤ_, _-ℤ_, _*ℤ_, negℤ-negℤ, negℤ-+ℤ, +ℤ-comm}
 use lib.Dec.{T}
@@ -237,6 +237,27 @@ module _ (n d : ℤ) (h : 0 < natAbs d) where
                   (half-other A D h (sym (ap (λ (x : ℕ). 2 * x) (apart-is s (halfUp A D) s-turned)) ∙ e)),
             ));
       }
+
+-- ---- odd
+
+half-zero : (b : ℕ) → halfUp 0 b ≡ 0
+half-zero zero = refl
+half-zero (suc b) = div-eq-of-lt (omega arith)
+
+of-zero : (d : ℤ) → nearestOf (pos 0) d ≡ pos 0
+of-zero d = nearest-is (pos 0) d ∙ ap (λ (k : ℕ). towards (pos 0) d (pos k)) (half-zero (natAbs d)) ∙ turned d
+  where
+    turned : (d : ℤ) → towards (pos 0) d (pos 0) ≡ pos 0
+    turned (pos b) = refl
+    turned (negsuc b) = refl
+
+pub nearest-odd : (n d : ℤ) → nearestOf (negℤ n) d ≡ negℤ (nearestOf n d)
+unfolding nearestOf
+nearest-odd (pos zero) d = of-zero d ∙ ap negℤ (sym (of-zero d))
+nearest-odd (pos (suc a)) (pos b) = refl
+nearest-odd (pos (suc a)) (negsuc b) = sym (negℤ-negℤ (pos (halfUp (suc a) (suc b))))
+nearest-odd (negsuc a) (pos b) = sym (negℤ-negℤ (pos (halfUp (suc a) b)))
+nearest-odd (negsuc a) (negsuc b) = refl
 
 pub rounding-right : RoundingRight
 rounding-right n d ne = is-nearest n d (abs-above d ne)

@@ -1,2 +1,4 @@
 pub mod Rounding
 pub mod Orders
+pub mod Cases
+pub mod Stage

@@ -28,7 +28,7 @@ use Rattle.state.specs.Same.{sameNumber, sameMotors, sameKept, sameSong,
 
 -- ---- nowhere else
 
-same-number : (a b : ℤ) → T (sameNumber a b) → a ≡ b
+pub same-number : (a b : ℤ) → T (sameNumber a b) → a ≡ b
 same-number (pos a) (pos b) t = ap pos (eqb→eq a b t)
 same-number (pos a) (negsuc b) t = absurd t
 same-number (negsuc a) (pos b) t = absurd t

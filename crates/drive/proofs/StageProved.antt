@@ -1,0 +1,226 @@
+-- What the motor stage can count on.
+-- Assumes nothing.
+use mathlib.Core.Path.{_≡_, refl, sym, ap, subst, _∙_}
+use mathlib.Core.Bool.{Bool, true, false, cond, _&&_, _||_, and-true, and-comm}
+use mathlib.Core.Logic.{⊎-elim}
+use Prim.Native.Nat.{ℕ, zero, suc, _≤_, _<_}
+use native.Mathlib.Omega.{arith}
+use lib.Dec.{T, eqb, leb, ltb, leb·suc-suc}
+use lib.IntN.{ℤ, pos, negsuc, negℤ, natAbs}
+use borrow.Author.Tests.{lt-ltb, le-ltb, lt-leb, le-leb, leb-true, ne-eqb, eq-eqb}
+use Rattle.wire.specs.Sixteen.{minus}
+use Rattle.wire.proofs.BoolLaws.{le-or-lt, to-T, both, cond-true, cond-is}
+use Rattle.wire.proofs.IntLaws.{abs-minus, abs-above}
+use Rattle.command.specs.Commands.{isSpeed, isRadius}
+use Rattle.command.specs.CommandTable.{isIn, isLegal, rowOf, legalOf}
+use Rattle.state.specs.State.{motorsOff}
+use Rattle.state.specs.Accepted.{orderNamed, wheelsLegal, acceptedOf}
+use Rattle.state.specs.Same.{sameNumber}
+use Rattle.state.specs.declared.Motors.{Motors}
+use Rattle.state.specs.declared.State.{State}
+use Rattle.state.proofs.SameLaws.{same-number}
+use Rattle.state.proofs.StateLaws.{off-order}
+use Rattle.state.proofs.RecordProved.{accepted-exactly}
+use Rattle.drive.specs.Rounding.{nearestOf, Nearest}
+use Rattle.drive.specs.Orders.{wheels, rightTimes, leftTimes, curveOf, beyond, capOf, speeds, given, refused, legalOrder, wheelsBy, speedsOf}
+use Rattle.drive.specs.Stage.{isPlain, isSpecial, CurvesRight, CapRight, backwards, OrdersRight, ordered, RecordsRight, StageRight}
+use Rattle.drive.specs.declared.Speeds.{Speeds}
+use Rattle.drive.specs.declared.Wheels.{Wheels}
+use Rattle.drive.proofs.RoundingLaws.{is-nearest, rounding-right}
+use Rattle.drive.proofs.OrdersLaws.{on-one, on-minus-one, on-straight, on-least, on-plain, turned, curve-odd, legal-none, legal-drive, legal-direct, legal-unnamed, cap-above, cap-below, cap-inside, cap-bounded, cap-odd, speeds-refused, speeds-given, by-drive, by-direct, by-none}
+
+-- ---- a curve
+
+-- no less and no greater is the same
+two-sided : (a n : ℕ) → (leb a n && leb n a) ≡ eqb n a
+two-sided a n =
+    ⊎-elim
+    (λ (h : a ≤ n).
+    ⊎-elim (λ (k : n ≤ a). simp (le-leb a n h, le-leb n a k, eq-eqb n a (omega arith)))
+    (λ (k : a < n). simp (le-leb a n h, lt-leb n a k, ne-eqb n a (λ (e : n ≡ a). omega arith))) (le-or-lt n a))
+    (λ (h : n < a). simp (lt-leb a n h, ne-eqb n a (λ (e : n ≡ a). omega arith))) (le-or-lt a n)
+
+radii : (r : ℤ) → isRadius r ≡ (isPlain r || isSpecial r)
+radii (pos zero) = refl
+radii (pos (suc zero)) = refl
+radii (pos (suc (suc n))) =
+    let k = suc (suc n) in
+    let least = le-leb 2 k (omega arith) in
+    ⊎-elim
+    (λ (h : suc (suc n) ≤ 2000). simp (least, le-leb k 2000 h, le-leb 0 k (omega arith), lt-leb k 0 (omega arith)))
+    (λ (h : 2000 < suc (suc n)). simp (least, lt-leb k 2000 h, two-sided 32767 k, ne-eqb k 1 (λ (e : suc (suc n) ≡ 1). omega arith)))
+    (le-or-lt k 2000)
+radii (negsuc zero) = refl
+radii (negsuc (suc n)) =
+    let k = suc n in
+    let least = le-leb 2 (suc k) (omega arith) in
+    ⊎-elim
+    (λ (h : suc n ≤ 1999). simp (least, le-leb k 1999 h, le-leb (suc k) 2000 (omega arith)))
+    (λ (h : 1999 < suc n).
+    simp (least, lt-leb k 1999 h, lt-leb (suc k) 2000 (omega arith), ne-eqb k 0 (λ (e : suc n ≡ 0). omega arith), and-comm (leb k 32767) (leb 32767 k) ∙ two-sided 32767 k))
+    (le-or-lt k 1999)
+
+-- a plain radius is none of the special ones
+module _ (r : ℤ) (e : isPlain r ≡ true) where
+  tested : (leb 2 (natAbs r) ≡ true) × (leb (natAbs r) 2000 ≡ true)
+  tested = both (leb 2 (natAbs r)) (leb (natAbs r) 2000) e
+
+  plain-least : 2 ≤ natAbs r
+  plain-least = leb-true 2 (natAbs r) (tested .0)
+
+  plain-most : natAbs r ≤ 2000
+  plain-most = leb-true (natAbs r) 2000 (tested .1)
+
+  not-same : (k : ℤ) → (natAbs r ≡ natAbs k → ⊥) → sameNumber r k ≡ false
+  not-same k n = go (sameNumber r k) refl
+    where
+      go : (t : Bool) → sameNumber r k ≡ t → sameNumber r k ≡ false
+      go true q = absurd (n (ap natAbs (same-number r k (to-T (sameNumber r k) q))))
+      go false q = q
+
+  plain-curve : (v : ℤ) → curveOf v r ≡ wheels (nearestOf (rightTimes v r) r) (nearestOf (leftTimes v r) r)
+  plain-curve v =
+      on-plain v r
+      (not-same (pos 1) (λ (q : natAbs r ≡ 1). omega (arith, plain-least)))
+      (not-same (minus 1) (λ (q : natAbs r ≡ 1). omega (arith, plain-least)))
+      (not-same (pos 32767) (λ (q : natAbs r ≡ 32767). omega (arith, plain-most)))
+      (not-same (minus 32768) (λ (q : natAbs r ≡ 32768). omega (arith, plain-most)))
+
+  plain-right : (v : ℤ) → Nearest (rightTimes v r) r (curveOf v r .right)
+  plain-right v =
+      subst (λ (w : Wheels). Nearest (rightTimes v r) r (w .right)) (sym (plain-curve v))
+      (is-nearest (rightTimes v r) r (omega (arith, plain-least)))
+
+  plain-left : (v : ℤ) → Nearest (leftTimes v r) r (curveOf v r .left)
+  plain-left v =
+      subst (λ (w : Wheels). Nearest (leftTimes v r) r (w .left)) (sym (plain-curve v))
+      (is-nearest (leftTimes v r) r (omega (arith, plain-least)))
+
+curves-right : CurvesRight
+curves-right =
+    record {
+      radii = radii;
+      plain-right = λ v r e. plain-right r e v;
+      plain-left = λ v r e. plain-left r e v;
+      counterclockwise = λ v. on-one v (pos 1) refl;
+      clockwise = λ v. on-minus-one v (minus 1) refl;
+      straight = λ v. on-straight v (pos 32767) refl;
+      straight-too = λ v. on-least v (minus 32768) refl;
+    }
+
+-- ---- an order
+
+-- by the test that an order is legal
+by-legal : (kind : ℕ) (a b : ℤ) → speedsOf kind a b ≡ cond (legalOrder kind a b) (given (wheelsBy kind a b)) refused
+unfolding speedsOf
+by-legal kind a b = refl
+
+none-stands : (a b : ℤ) → speedsOf 0 a b ≡ speeds (pos 0) (pos 0) false
+none-stands a b = speeds-given 0 a b (legal-none a b) refl
+
+drive-is : (v r : ℤ) → speedsOf 1 v r ≡ cond (isSpeed v && isRadius r) (given (curveOf v r)) refused
+drive-is v r = by-legal 1 v r ∙ ap (λ (t : Bool). cond t (given (curveOf v r)) refused) (legal-drive v r)
+
+-- a legal speed is not capped
+uncapped : (a : ℤ) → isSpeed a ≡ true → (capOf a ≡ a) × (beyond a ≡ false)
+uncapped (pos n) e = cap-inside (pos n) (le-ltb 500 n (leb-true n 500 e)) refl
+uncapped (negsuc n) e = cap-inside (negsuc n) refl (le-ltb 499 n (leb-true n 499 (both (leb n 499) true e .0)))
+
+passes : (a b : ℤ) → (isSpeed a && isSpeed b) ≡ true → given (wheels a b) ≡ speeds a b false
+passes a b e =
+    let right = uncapped a (both (isSpeed a) (isSpeed b) e .0) in
+    let left = uncapped b (both (isSpeed a) (isSpeed b) e .1) in
+    λ i. speeds (right .0 i) (left .0 i) (right .1 i || left .1 i)
+
+direct-is : (a b : ℤ) → speedsOf 2 a b ≡ cond (isSpeed a && isSpeed b) (speeds a b false) refused
+direct-is a b = by-legal 2 a b ∙ ap (λ (t : Bool). cond t (given (wheels a b)) refused) (legal-direct a b) ∙ passed (isSpeed a && isSpeed b) (passes a b)
+  where
+    passed : (t : Bool) → (t ≡ true → given (wheels a b) ≡ speeds a b false) → cond t (given (wheels a b)) refused ≡ cond t (speeds a b false) refused
+    passed true f = f refl
+    passed false f = refl
+
+flag-is : (v r : ℤ) → (isSpeed v && isRadius r) ≡ true → speedsOf 1 v r .capped ≡ (beyond (curveOf v r .right) || beyond (curveOf v r .left))
+flag-is v r e = ap (λ (s : Speeds). s .capped) (drive-is v r ∙ cond-true (isSpeed v && isRadius r) (given (curveOf v r)) refused e)
+
+-- what holds of every speed that is given, and of 0
+bounded : (P : Speeds → Type 0) (kind : ℕ) (a b : ℤ) → P (given (wheelsBy kind a b)) → P refused → P (speedsOf kind a b)
+bounded P kind a b g z = subst P (sym (by-legal kind a b)) (cond-is P (legalOrder kind a b) (λ e. g) (λ e. z))
+
+-- the legal speeds are the same both ways
+speed-minus : (n : ℕ) → isSpeed (negsuc n) ≡ isSpeed (pos (suc n))
+speed-minus n = and-true (leb n 499) ∙ sym (leb·suc-suc n 499)
+
+speed-even : (v : ℤ) → isSpeed (negℤ v) ≡ isSpeed v
+speed-even (pos zero) = refl
+speed-even (pos (suc n)) = speed-minus n
+speed-even (negsuc n) = sym (speed-minus n)
+
+given-odd : (w : Wheels) → given (turned w) ≡ backwards (given w)
+given-odd w i =
+    speeds (cap-odd (w .right) i) (cap-odd (w .left) i) (ltb 500 (abs-minus (w .right) i) || ltb 500 (abs-minus (w .left) i))
+
+odd : (v r : ℤ) → speedsOf 1 (negℤ v) r ≡ backwards (speedsOf 1 v r)
+odd v r =
+    drive-is (negℤ v) r
+    ∙ (λ i. cond (speed-even v i && isRadius r) (given (curve-odd v r i)) refused)
+    ∙ ap (λ (s : Speeds). cond (isSpeed v && isRadius r) s refused) (given-odd (curveOf v r))
+    ∙ either (isSpeed v && isRadius r)
+    ∙ sym (ap backwards (drive-is v r))
+  where
+    either : (t : Bool) → cond t (backwards (given (curveOf v r))) refused ≡ backwards (cond t (given (curveOf v r)) refused)
+    either true = refl
+    either false = refl
+
+orders-right : OrdersRight
+orders-right =
+    record {
+      none = none-stands;
+      drive = drive-is;
+      direct = direct-is;
+      unnamed = λ kind a b h. speeds-refused kind a b (legal-unnamed kind a b h);
+      flag = flag-is;
+      right-bounded = λ kind a b. bounded (λ s. natAbs (s .right) ≤ 500) kind a b (cap-bounded (wheelsBy kind a b .right)) (omega arith);
+      left-bounded = λ kind a b. bounded (λ s. natAbs (s .left) ≤ 500) kind a b (cap-bounded (wheelsBy kind a b .left)) (omega arith);
+      odd = odd;
+    }
+
+-- ---- the state record's order
+
+off-stands : (m : Motors) → motorsOff m ≡ true → ordered m ≡ speeds (pos 0) (pos 0) false
+off-stands m e = ap (λ (k : ℕ). speedsOf k (m .first) (m .second)) (off-order m e) ∙ none-stands (m .first) (m .second)
+
+-- by the kind that is named
+taken : (m : Motors) (k : ℕ) → m .order ≡ k → k ≤ 2 → (k ≡ 1 → (isSpeed (m .first) && isRadius (m .second)) ≡ true)
+    → (k ≡ 2 → (isSpeed (m .first) && isSpeed (m .second)) ≡ true) → ordered m .number ≡ 0
+taken m k e h drive direct =
+    ap (λ (o : ℕ). speedsOf o (m .first) (m .second) .number) e ∙ go k h drive direct
+  where
+    go : (k : ℕ) → k ≤ 2 → (k ≡ 1 → (isSpeed (m .first) && isRadius (m .second)) ≡ true) → (k ≡ 2 → (isSpeed (m .first) && isSpeed (m .second)) ≡ true) → speedsOf k (m .first) (m .second) .number ≡ 0
+    go zero h f g = ap (λ (s : Speeds). s .number) (none-stands (m .first) (m .second))
+    go (suc zero) h f g =
+        ap (λ (s : Speeds). s .number) (drive-is (m .first) (m .second) ∙ cond-true (isSpeed (m .first) && isRadius (m .second)) (given (curveOf (m .first) (m .second))) refused (f refl))
+    go (suc (suc zero)) h f g =
+        ap (λ (s : Speeds). s .number) (direct-is (m .first) (m .second) ∙ cond-true (isSpeed (m .first) && isSpeed (m .second)) (speeds (m .first) (m .second) false) refused (g refl))
+    go (suc (suc (suc k))) h f g = let never : ⊥ = omega arith in absurd never
+
+records-right : RecordsRight
+records-right =
+    record {
+      accepted = λ s t. (let p = accepted-exactly .tells s t .1 in taken (s .motors) (s .motors .order) refl (p .order-is) (p .drive-is) (p .direct-is));
+      off = off-stands;
+      at-rest = λ s t h. off-stands (s .motors) (accepted-exactly .tells s t .1 .off-unless-driven h);
+    }
+
+-- ---- all of it
+
+pub stage-right : StageRight
+unfolding isIn isLegal rowOf legalOf orderNamed wheelsLegal nearestOf curveOf speedsOf
+stage-right =
+    record {
+      rounding = rounding-right;
+      curves = curves-right;
+      cap = record { above = cap-above; below = cap-below; inside = cap-inside };
+      orders = orders-right;
+      records = records-right;
+      cases = tt;
+    }
