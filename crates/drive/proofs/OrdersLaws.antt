@@ -1,7 +1,7 @@
 -- Laws of the speeds: by the radius, and in 32 bits.
 -- Assumes nothing.
 use mathlib.Core.Path.{_≡_, refl, sym, ap, subst, _∙_}
-use mathlib.Core.Bool.{Bool, true, false, cond, _&&_, _||_}
+use mathlib.Core.Bool.{Bool, true, false, not, cond, _&&_, _||_}
 use mathlib.Core.Logic.{⊎-elim}
 use Prim.Native.Nat.{ℕ, zero, suc, _≤_, _<_}
 use native.Mathlib.Omega.{arith}
@@ -13,17 +13,27 @@ use mir.Syntax.{w16, w32}
 use mir.Val.{SFits, toZ, ofZ}
 use borrow.Author.Tests.{lt-ltb, le-ltb, ltb-true, ltb-false, ne-eqb}
 use Rattle.wire.specs.Sixteen.{minus}
-use Rattle.wire.proofs.BoolLaws.{le-or-lt, both, cond-true, cond-false, cond-is}
+use Rattle.wire.proofs.BoolLaws.{to-T, le-or-lt, both, cond-true, cond-false, cond-is}
 use Rattle.wire.proofs.IntLaws.{minus-times, mag-abs, abs-above}
 use Rattle.wire.proofs.SignedLaws.{widened}
 use Rattle.command.specs.Commands.{isSpeed, isRadius}
 use Rattle.command.proofs.CommandTableLaws.{drive-legal, direct-legal}
 use Rattle.state.specs.Accepted.{orderNamed, wheelsLegal}
 use Rattle.state.specs.Same.{sameNumber}
+use Rattle.state.proofs.SameLaws.{same-number, number-self}
 use Rattle.drive.specs.Rounding.{nearestOf}
 use Rattle.drive.specs.Orders.{wheels, rightTimes, leftTimes, curveOf, wheelsBy, beyond, capOf, given, refused, legalOrder, speedsOf}
 use Rattle.drive.specs.declared.Wheels.{Wheels}
 use Rattle.drive.proofs.RoundingLaws.{nearest-odd}
+
+-- ---- numbers that are not the same
+
+pub not-same : (a b : ℤ) → (natAbs a ≡ natAbs b → ⊥) → sameNumber a b ≡ false
+not-same a b n = go (sameNumber a b) refl
+  where
+    go : (t : Bool) → sameNumber a b ≡ t → sameNumber a b ≡ false
+    go true e = absurd (n (ap natAbs (same-number a b (to-T (sameNumber a b) e))))
+    go false e = e
 
 -- ---- by the radius
 
@@ -130,6 +140,19 @@ cap-minus : (n : ℕ) → capOf (pos (suc n)) ≡ negℤ (capOf (negsuc n))
 cap-minus n =
     ⊎-elim (λ (h : n ≤ 499). simp (le-ltb 500 (suc n) (omega arith), le-ltb 499 n h))
     (λ (h : 499 < n). simp (lt-ltb 500 (suc n) (omega arith), lt-ltb 499 n h)) (le-or-lt n 499)
+
+-- within it nothing is changed
+cap-keeps : (s : ℤ) → natAbs s ≤ 500 → capOf s ≡ s
+cap-keeps (pos n) h = simp (le-ltb 500 n h)
+cap-keeps (negsuc n) h = simp (le-ltb 499 n (omega arith))
+
+-- a speed is beyond where the cap changes it
+pub cap-changes : (s : ℤ) → not (sameNumber (capOf s) s) ≡ beyond s
+cap-changes s = go (beyond s) refl
+  where
+    go : (t : Bool) → beyond s ≡ t → not (sameNumber (capOf s) s) ≡ beyond s
+    go true e = ap not (not-same (capOf s) s (λ q. omega (arith, q, cap-bounded s, ltb-true 500 (natAbs s) e))) ∙ sym e
+    go false e = ap (λ (z : ℤ). not (sameNumber z s)) (cap-keeps s (ltb-false 500 (natAbs s) e)) ∙ ap not (number-self s) ∙ sym e
 
 pub cap-odd : (s : ℤ) → capOf (negℤ s) ≡ negℤ (capOf s)
 cap-odd (pos zero) = refl

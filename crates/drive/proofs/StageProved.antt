@@ -9,7 +9,7 @@ use lib.Dec.{T, eqb, leb, ltb, leb·suc-suc}
 use lib.IntN.{ℤ, pos, negsuc, negℤ, natAbs}
 use borrow.Author.Tests.{lt-ltb, le-ltb, lt-leb, le-leb, leb-true, ne-eqb, eq-eqb}
 use Rattle.wire.specs.Sixteen.{minus}
-use Rattle.wire.proofs.BoolLaws.{le-or-lt, to-T, both, cond-true, cond-is}
+use Rattle.wire.proofs.BoolLaws.{le-or-lt, both, cond-true, cond-is}
 use Rattle.wire.proofs.IntLaws.{abs-minus, abs-above}
 use Rattle.command.specs.Commands.{isSpeed, isRadius}
 use Rattle.command.specs.CommandTable.{isIn, isLegal, rowOf, legalOf}
@@ -18,7 +18,6 @@ use Rattle.state.specs.Accepted.{orderNamed, wheelsLegal, acceptedOf}
 use Rattle.state.specs.Same.{sameNumber}
 use Rattle.state.specs.declared.Motors.{Motors}
 use Rattle.state.specs.declared.State.{State}
-use Rattle.state.proofs.SameLaws.{same-number}
 use Rattle.state.proofs.StateLaws.{off-order}
 use Rattle.state.proofs.RecordProved.{accepted-exactly}
 use Rattle.drive.specs.Rounding.{nearestOf, Nearest}
@@ -27,7 +26,7 @@ use Rattle.drive.specs.Stage.{isPlain, isSpecial, CurvesRight, CapRight,
 use Rattle.drive.specs.declared.Speeds.{Speeds}
 use Rattle.drive.specs.declared.Wheels.{Wheels}
 use Rattle.drive.proofs.RoundingLaws.{is-nearest, rounding-right}
-use Rattle.drive.proofs.OrdersLaws.{on-one, on-minus-one, on-straight, on-least, on-plain, turned, curve-odd, legal-none, legal-drive, legal-direct, legal-unnamed, cap-above, cap-below, cap-inside, cap-bounded, cap-odd, speeds-refused, speeds-given, by-drive, by-direct, by-none}
+use Rattle.drive.proofs.OrdersLaws.{not-same, on-one, on-minus-one, on-straight, on-least, on-plain, turned, curve-odd, legal-none, legal-drive, legal-direct, legal-unnamed, cap-above, cap-below, cap-inside, cap-bounded, cap-odd, speeds-refused, speeds-given, by-drive, by-direct, by-none}
 
 -- ---- a curve
 
@@ -71,20 +70,13 @@ module _ (r : ℤ) (e : isPlain r ≡ true) where
   plain-most : natAbs r ≤ 2000
   plain-most = leb-true (natAbs r) 2000 (tested .1)
 
-  not-same : (k : ℤ) → (natAbs r ≡ natAbs k → ⊥) → sameNumber r k ≡ false
-  not-same k n = go (sameNumber r k) refl
-    where
-      go : (t : Bool) → sameNumber r k ≡ t → sameNumber r k ≡ false
-      go true q = absurd (n (ap natAbs (same-number r k (to-T (sameNumber r k) q))))
-      go false q = q
-
   plain-curve : (v : ℤ) → curveOf v r ≡ wheels (nearestOf (rightTimes v r) r) (nearestOf (leftTimes v r) r)
   plain-curve v =
       on-plain v r
-      (not-same (pos 1) (λ (q : natAbs r ≡ 1). omega (arith, plain-least)))
-      (not-same (minus 1) (λ (q : natAbs r ≡ 1). omega (arith, plain-least)))
-      (not-same (pos 32767) (λ (q : natAbs r ≡ 32767). omega (arith, plain-most)))
-      (not-same (minus 32768) (λ (q : natAbs r ≡ 32768). omega (arith, plain-most)))
+      (not-same r (pos 1) (λ (q : natAbs r ≡ 1). omega (arith, plain-least)))
+      (not-same r (minus 1) (λ (q : natAbs r ≡ 1). omega (arith, plain-least)))
+      (not-same r (pos 32767) (λ (q : natAbs r ≡ 32767). omega (arith, plain-most)))
+      (not-same r (minus 32768) (λ (q : natAbs r ≡ 32768). omega (arith, plain-most)))
 
   plain-right : (v : ℤ) → Nearest (rightTimes v r) r (curveOf v r .right)
   plain-right v =

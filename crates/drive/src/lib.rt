@@ -12,11 +12,13 @@ ghost use mathlib.Core.Path.{_≡_};
 ghost use Prim.Native.Nat.{_<_, _≤_};
 ghost use lib.IntN.{natAbs, _+ℤ_, _*ℤ_};
 ghost use Rattle.drive.specs.Rounding.{nearestOf};
-ghost use Rattle.drive.specs.Orders.{curveOf, beyond, capOf, given, refused, speedsOf};
+ghost use Rattle.drive.specs.Orders.{curveOf, capOf, given, refused, speedsOf};
 use state::Motors;
 
-// Half of the 258 mm between the wheel centres.
-const HALF_TRACK: i32 = 129;
+// The wheel centres are 258 mm apart: how far to the right of the middle each is.
+const RIGHT: i32 = 129;
+
+const LEFT: i32 = -129;
 
 // The fastest that a wheel turns, either way.
 const FASTEST: i32 = 500;
@@ -77,41 +79,35 @@ fn curve(velocity: i16, radius: i16) -> Wheels
         -1 => Wheels { right: -v, left: v },
         32767 | -32768 => Wheels { right: v, left: v },
         _ => Wheels {
-            right: on_curve(velocity, radius, HALF_TRACK),
-            left: on_curve(velocity, radius, -HALF_TRACK),
+            right: on_curve(velocity, radius, RIGHT),
+            left: on_curve(velocity, radius, LEFT),
         },
     }
 }
 
-fn is_beyond(speed: i32) -> bool
-    ensures { λ r. ⌜ r ≡ beyond speed ⌝ }
-{
-    wire::magnitude(speed) > 500
-}
-
-fn cap(speed: i32) -> i16
+fn cap(speed: i32) -> i32
     ensures { λ r. ⌜ r ≡ capOf speed ⌝ }
 {
     if speed > FASTEST {
-        return 500;
+        return FASTEST;
     }
     if speed < -FASTEST {
-        return -500;
+        return -FASTEST;
     }
-    speed as i16
+    speed
 }
 
-// Each wheel capped alone.
+// Each wheel capped alone, and whether that changed either.
 fn cap_both(wheels: Wheels) -> Speeds
     ensures { λ r. ⌜ r ≡ given wheels ⌝ }
 {
-    let right = wheels.right;
-    let left = wheels.left;
+    let right = cap(wheels.right);
+    let left = cap(wheels.left);
     Speeds {
         number: DONE,
-        right: cap(right),
-        left: cap(left),
-        capped: is_beyond(right) || is_beyond(left),
+        right: right as i16,
+        left: left as i16,
+        capped: right != wheels.right || left != wheels.left,
     }
 }
 

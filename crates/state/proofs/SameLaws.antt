@@ -9,7 +9,7 @@ use lib.Dec.{T, eqb, eqb→eq}
 use lib.IntN.{ℤ, pos, negsuc}
 use lib.ListN.{length, getD, drop}
 use lib.Seq.{drop-cons}
-use mir.Syntax.{w16}
+use mir.Syntax.{Width}
 use mir.Val.{SFits, toZ, ofZ}
 use mir.ValLaws.{toZ-ofZ}
 use mir.Facts.{and-yes, yes-eqb}
@@ -118,7 +118,7 @@ same-state a b t =
 self : (n : ℕ) → eqb n n ≡ true
 self n = eq-eqb n n refl
 
-number-self : (a : ℤ) → sameNumber a a ≡ true
+pub number-self : (a : ℤ) → sameNumber a a ≡ true
 number-self (pos a) = self a
 number-self (negsuc a) = self a
 
@@ -149,11 +149,11 @@ same-exactly = record { same-equal = same-state; equal-same = equal-same }
 -- ---- for the functions that test a part
 
 -- the machine holds a number's bits
-pub by-bits : (v w : ℤ) → SFits w16 v → SFits w16 w → sameNumber v w ≡ eqb (ofZ w16 v) (ofZ w16 w)
-by-bits v w f g =
-    let back : ofZ w16 v ≡ ofZ w16 w → v ≡ w = λ e. sym (toZ-ofZ w16 v f) ∙ ap (toZ w16) e ∙ toZ-ofZ w16 w g in
-    same-truth (sameNumber v w) (eqb (ofZ w16 v) (ofZ w16 w)) (λ t. yes-eqb (ap (ofZ w16) (same-number v w t)))
-    (λ t. equal-number v w (back (eqb→eq (ofZ w16 v) (ofZ w16 w) t)))
+pub by-bits : {w : Width} (a b : ℤ) → SFits w a → SFits w b → sameNumber a b ≡ eqb (ofZ w a) (ofZ w b)
+by-bits {w} a b f g =
+    let back : ofZ w a ≡ ofZ w b → a ≡ b = λ e. sym (toZ-ofZ w a f) ∙ ap (toZ w) e ∙ toZ-ofZ w b g in
+    same-truth (sameNumber a b) (eqb (ofZ w a) (ofZ w b)) (λ t. yes-eqb (ap (ofZ w) (same-number a b t)))
+    (λ t. equal-number a b (back (eqb→eq (ofZ w a) (ofZ w b) t)))
 
 -- one turn of a loop over two tables
 pub table-next : (d e : Song) (l m : List Song) (i : ℕ) → i < length l → i < length m

@@ -86,7 +86,6 @@ curve-spec =
     (λ c. minus-fits (c .before .fits .velocity))
     (λ c. minus-fits (c .before .fits .velocity))
     (λ c κs. search needs)
-    (λ c. search needs)
     (λ c κs. search needs)
     returns
     returns-2
