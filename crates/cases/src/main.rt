@@ -10,6 +10,7 @@
 //     held START | NAMED | PLACE          the run table
 //     bad START | START | PLACE           a bad record and its good neighbour
 //     write START | COMMAND | PLACE       the writer, and the board on what it wrote
+//     speeds START | EXACT | PLACE        the wheel speeds of a record's order
 //
 // A line that is bad is told, with its number and the place, and gives nothing else.
 mod bad;
@@ -18,6 +19,7 @@ mod cut;
 mod record;
 mod session;
 mod set;
+mod speeds;
 mod start;
 mod table;
 mod write;
@@ -56,11 +58,15 @@ fn from_start(session: Session, kind: usize, text: &[u8], cells: Cells) -> Sessi
             bad::bad(session, state, text, cells);
             session
         }
-        _ => with_state(
+        7 => with_state(
             session,
             1,
             write::write(widths, session.number, state, text, cells),
         ),
+        _ => {
+            speeds::speeds(widths, state, text, cells);
+            session
+        }
     }
 }
 
@@ -101,13 +107,13 @@ fn take_line(session: Session, text: &[u8]) -> Session {
     }
     let kind = terminal::which(
         &text[start..end],
-        b"= widths record frame case held bad write",
+        b"= widths record frame case held bad write speeds",
     );
     match kind {
         0 => heading(session, text, end),
         1 => session::set_widths(session, text, end),
         2 => session::name_record(session, text, end),
-        3..=7 => by_cells(session, kind, text, end),
+        3..=8 => by_cells(session, kind, text, end),
         _ => unknown(session, &text[start..end], start),
     }
 }

@@ -43,6 +43,11 @@ fn say_help() {
           both without their signs.\n",
     );
     say(
+        b"In brackets behind an order are the speeds that the wheels are given. Velocity v and radius r are v(r + 129)/r for the right one and v(r - 129)/r for\n\
+          the left, rounded, halves away from zero, and then capped to -500 and 500. Radius 1 turns counterclockwise on the spot, -1 clockwise, and 32767 and\n\
+          -32768 go straight.\n",
+    );
+    say(
         b"Words are in lower case, and a line has at most 1024 bytes. A bad line is told and does nothing. A call is one line; a line `now` follows where it\n\
           changed the record. The end of input ends the console.\n",
     );

@@ -30,6 +30,23 @@ pub fn say_answer(number: u8, read: usize, length: usize, buffer: &[u8]) {
     say(b"\n");
 }
 
+// What each wheel is told for an order. An order of the board's own is never refused.
+fn say_speeds(motors: Motors) {
+    let speeds = drive::wheel_speeds(motors.order, motors.first, motors.second);
+    if speeds.number != 0 {
+        say(b" (no speeds)");
+        return;
+    }
+    say(b" (right ");
+    say_signed(speeds.right);
+    say(b", left ");
+    say_signed(speeds.left);
+    if speeds.capped {
+        say(b", capped");
+    }
+    say(b")");
+}
+
 fn say_motors(motors: Motors) {
     let order = motors.order;
     match order {
@@ -43,6 +60,7 @@ fn say_motors(motors: Motors) {
         say_signed(motors.first);
         say(b" ");
         say_signed(motors.second);
+        say_speeds(motors);
     }
     let duties = motors.duties;
     say(b", duties of drivers 0 1 2: ");

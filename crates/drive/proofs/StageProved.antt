@@ -134,6 +134,9 @@ direct-is a b = by-legal 2 a b ∙ ap (λ (t : Bool). cond t (given (wheels a b)
 flag-is : (v r : ℤ) → (isSpeed v && isRadius r) ≡ true → speedsOf 1 v r .capped ≡ (beyond (curveOf v r .right) || beyond (curveOf v r .left))
 flag-is v r e = ap (λ (s : Speeds). s .capped) (drive-is v r ∙ cond-true (isSpeed v && isRadius r) (given (curveOf v r)) refused e)
 
+abbrev number-of : Speeds → ℕ
+number-of s = s .number
+
 -- what holds of every speed that is given, and of 0
 bounded : (P : Speeds → Type 0) (kind : ℕ) (a b : ℤ) → P (given (wheelsBy kind a b)) → P refused → P (speedsOf kind a b)
 bounded P kind a b g z = subst P (sym (by-legal kind a b)) (cond-is P (legalOrder kind a b) (λ e. g) (λ e. z))
@@ -182,23 +185,25 @@ off-stands : (m : Motors) → motorsOff m ≡ true → ordered m ≡ speeds (pos
 off-stands m e = ap (λ (k : ℕ). speedsOf k (m .first) (m .second)) (off-order m e) ∙ none-stands (m .first) (m .second)
 
 -- by the kind that is named
-taken : (m : Motors) (k : ℕ) → m .order ≡ k → k ≤ 2 → (k ≡ 1 → (isSpeed (m .first) && isRadius (m .second)) ≡ true)
-    → (k ≡ 2 → (isSpeed (m .first) && isSpeed (m .second)) ≡ true) → ordered m .number ≡ 0
-taken m k e h drive direct =
-    ap (λ (o : ℕ). speedsOf o (m .first) (m .second) .number) e ∙ go k h drive direct
-  where
-    go : (k : ℕ) → k ≤ 2 → (k ≡ 1 → (isSpeed (m .first) && isRadius (m .second)) ≡ true) → (k ≡ 2 → (isSpeed (m .first) && isSpeed (m .second)) ≡ true) → speedsOf k (m .first) (m .second) .number ≡ 0
-    go zero h f g = ap (λ (s : Speeds). s .number) (none-stands (m .first) (m .second))
-    go (suc zero) h f g =
-        ap (λ (s : Speeds). s .number) (drive-is (m .first) (m .second) ∙ cond-true (isSpeed (m .first) && isRadius (m .second)) (given (curveOf (m .first) (m .second))) refused (f refl))
-    go (suc (suc zero)) h f g =
-        ap (λ (s : Speeds). s .number) (direct-is (m .first) (m .second) ∙ cond-true (isSpeed (m .first) && isSpeed (m .second)) (speeds (m .first) (m .second) false) refused (g refl))
-    go (suc (suc (suc k))) h f g = let never : ⊥ = omega arith in absurd never
+taken : (v r : ℤ) (kind : ℕ) → kind ≤ 2 → (kind ≡ 1 → (isSpeed v && isRadius r) ≡ true) → (kind ≡ 2 → (isSpeed v && isSpeed r) ≡ true)
+    → speedsOf kind v r .number ≡ 0
+taken v r zero h drive direct = ap number-of (none-stands v r)
+taken v r (suc zero) h drive direct =
+    ap number-of (drive-is v r ∙ cond-true (isSpeed v && isRadius r) (given (curveOf v r)) refused (drive refl))
+taken v r (suc (suc zero)) h drive direct =
+    ap number-of (direct-is v r ∙ cond-true (isSpeed v && isSpeed r) (speeds v r false) refused (direct refl))
+taken v r (suc (suc (suc kind))) h drive direct = let never : ⊥ = omega arith in absurd never
+
+accepted : (s : State) → T (acceptedOf s) → ordered (s .motors) .number ≡ 0
+accepted s t =
+    let m = s .motors in
+    let p = accepted-exactly .tells s t .1 in
+    taken (m .first) (m .second) (m .order) (p .order-is) (p .drive-is) (p .direct-is)
 
 records-right : RecordsRight
 records-right =
     record {
-      accepted = λ s t. (let p = accepted-exactly .tells s t .1 in taken (s .motors) (s .motors .order) refl (p .order-is) (p .drive-is) (p .direct-is));
+      accepted = accepted;
       off = off-stands;
       at-rest = λ s t h. off-stands (s .motors) (accepted-exactly .tells s t .1 .off-unless-driven h);
     }

@@ -8,6 +8,10 @@
 //     Direct                    as it is
 //
 // then each is capped to -500 and 500. An order that document 01 calls illegal is refused with 4.
+//
+// Proved (specs/Stage.antt): each speed before the cap is the nearest whole number, the only one but at a half, and there the one further from zero; the cap
+// and its flag in every case; the speeds are odd in the velocity; no wheel is told more than 500; an accepted record's order is never refused, and in Off and
+// Passive the wheels stand. Nothing overflows for any order.
 ghost use mathlib.Core.Path.{_≡_};
 ghost use Prim.Native.Nat.{_<_, _≤_};
 ghost use lib.IntN.{natAbs, _+ℤ_, _*ℤ_};
@@ -25,7 +29,7 @@ const FASTEST: i32 = 500;
 
 const DONE: u8 = 0;
 
-// Document 01's number, the speed of each wheel in mm/s, and whether either was capped. With a refusal's number the speeds are 0.
+// Document 01's number, the speed of each wheel, and whether either was capped.
 #[repr(C)]
 pub struct Speeds {
     pub number: u8,
@@ -40,7 +44,8 @@ struct Wheels {
     left: i32,
 }
 
-// n / d to the nearest whole number, halves away from zero.
+// n / d to the nearest whole number, halves away from zero: the quotient, or the next where twice the rest is no less than the divisor. The greatest numerator
+// is one less than fits, so that there is room for the next.
 fn nearest(n: i32, d: i32) -> i32
     requires { ⌜ 0 < natAbs d ⌝ }
     requires { ⌜ natAbs n < 2147483647 ⌝ }
@@ -57,7 +62,7 @@ fn nearest(n: i32, d: i32) -> i32
     }
 }
 
-// The speed of a wheel that stands so far to the right of the middle, on a plain radius.
+// A wheel's speed on a plain radius, the wheel standing so far to the right of the middle. Of any velocity and radius the numerator is within 32 bits.
 fn on_curve(velocity: i16, radius: i16, offset: i32) -> i32
     requires { ⌜ 0 < natAbs radius ⌝ }
     requires { ⌜ natAbs offset ≤ 129 ⌝ }
@@ -85,6 +90,7 @@ fn curve(velocity: i16, radius: i16) -> Wheels
     }
 }
 
+// To -500 and 500.
 fn cap(speed: i32) -> i32
     ensures { λ r. ⌜ r ≡ capOf speed ⌝ }
 {
@@ -111,6 +117,7 @@ fn cap_both(wheels: Wheels) -> Speeds
     }
 }
 
+// A refusal has no speeds.
 fn refuse() -> Speeds
     ensures { λ r. ⌜ r ≡ refused ⌝ }
 {
@@ -122,7 +129,7 @@ fn refuse() -> Speeds
     }
 }
 
-// A wheel order as the state record has it: its kind and its two numbers.
+// The speeds of a wheel order as the state record has it: its kind and its two numbers. It is legal by the record's own rule. C and Rust call it by this name.
 #[no_mangle]
 pub extern "C" fn wheel_speeds(kind: u8, first: i16, second: i16) -> Speeds
     ensures { λ r. ⌜ r ≡ speedsOf kind first second ⌝ }
