@@ -22,7 +22,7 @@ use Rattle.state.specs.Accepted.{orderNamed, wheelsLegal}
 use Rattle.state.specs.Same.{sameNumber}
 use Rattle.state.proofs.SameLaws.{same-number, number-self}
 use Rattle.drive.specs.Rounding.{nearestOf}
-use Rattle.drive.specs.Orders.{wheels, rightTimes, leftTimes, curveOf, wheelsBy, beyond, capOf, given, refused, legalOrder, speedsOf}
+use Rattle.drive.specs.Orders.{wheels, rightNumerator, leftNumerator, curveOf, wheelsBy, beyond, capOf, given, refused, legalOrder, speedsOf}
 use Rattle.drive.specs.declared.Wheels.{Wheels}
 use Rattle.drive.proofs.RoundingLaws.{nearest-odd}
 
@@ -55,7 +55,7 @@ module _ (v r : ℤ) where
   on-least e = rw e refl
 
   pub on-plain : sameNumber r (pos 1) ≡ false → sameNumber r (minus 1) ≡ false → sameNumber r (pos 32767) ≡ false → sameNumber r (minus 32768) ≡ false
-      → curveOf v r ≡ wheels (nearestOf (rightTimes v r) r) (nearestOf (leftTimes v r) r)
+      → curveOf v r ≡ wheels (nearestOf (rightNumerator v r) r) (nearestOf (leftNumerator v r) r)
   unfolding curveOf
   on-plain a b c d = rw (a, b, c, d) refl
 
@@ -71,7 +71,7 @@ curve-odd v r = by-tests (sameNumber r (pos 1)) (sameNumber r (minus 1)) (sameNu
     times-odd f = ap (λ (n : ℤ). nearestOf n r) (minus-times v f) ∙ nearest-odd (v *ℤ f) r
 
     plain : ℤ → Wheels
-    plain x = wheels (nearestOf (rightTimes x r) r) (nearestOf (leftTimes x r) r)
+    plain x = wheels (nearestOf (rightNumerator x r) r) (nearestOf (leftNumerator x r) r)
 
     by-tests : (a b c : Bool)
         → cond a (wheels (negℤ v) (negℤ (negℤ v))) (cond b (wheels (negℤ (negℤ v)) (negℤ v)) (cond c (wheels (negℤ v) (negℤ v)) (plain (negℤ v))))

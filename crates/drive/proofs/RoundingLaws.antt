@@ -10,9 +10,8 @@ use lib.IntN.{ℤ, pos, negsuc, negℤ, natAbs, _+ℤ_, _-ℤ_, _*ℤ_, negℤ-n
 use lib.Dec.{T}
 use lib.Signed.{ltZ, nonNeg, quotZ, remZ}
 use borrow.Author.Tests.{le-ltb}
-use Rattle.wire.specs.Sixteen.{minus}
 use Rattle.wire.proofs.BoolLaws.{le-or-lt}
-use Rattle.wire.proofs.IntLaws.{minus-times, times-minus, both-minus, abs-minus, abs-apart, abs-above, abs-exchanged, rem-abs}
+use Rattle.wire.proofs.IntLaws.{minus-times, times-minus, abs-minus, abs-apart, abs-above, abs-exchanged, rem-abs}
 use Rattle.drive.specs.Rounding.{halfUp, nearestOf, distance, HalfWay, Nearest, RoundingRight}
 
 -- ---- without signs

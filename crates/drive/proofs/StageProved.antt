@@ -7,26 +7,27 @@ use Prim.Native.Nat.{ℕ, zero, suc, _≤_, _<_}
 use native.Mathlib.Omega.{arith}
 use lib.Dec.{T, eqb, leb, ltb, leb·suc-suc}
 use lib.IntN.{ℤ, pos, negsuc, negℤ, natAbs}
-use borrow.Author.Tests.{lt-ltb, le-ltb, lt-leb, le-leb, leb-true, ne-eqb, eq-eqb}
+use borrow.Author.Tests.{le-ltb, lt-leb, le-leb, leb-true, ne-eqb, eq-eqb}
+use Rattle.wire.specs.Lists.{all}
 use Rattle.wire.specs.Sixteen.{minus}
 use Rattle.wire.proofs.BoolLaws.{le-or-lt, both, cond-true, cond-is}
-use Rattle.wire.proofs.IntLaws.{abs-minus, abs-above}
+use Rattle.wire.proofs.IntLaws.{abs-minus}
 use Rattle.command.specs.Commands.{isSpeed, isRadius}
 use Rattle.command.specs.CommandTable.{isIn, isLegal, rowOf, legalOf}
 use Rattle.state.specs.State.{motorsOff}
 use Rattle.state.specs.Accepted.{orderNamed, wheelsLegal, acceptedOf}
-use Rattle.state.specs.Same.{sameNumber}
 use Rattle.state.specs.declared.Motors.{Motors}
 use Rattle.state.specs.declared.State.{State}
 use Rattle.state.proofs.StateLaws.{off-order}
 use Rattle.state.proofs.RecordProved.{accepted-exactly}
-use Rattle.drive.specs.Rounding.{nearestOf, Nearest}
-use Rattle.drive.specs.Orders.{wheels, rightTimes, leftTimes, curveOf, beyond, capOf, speeds, given, refused, legalOrder, wheelsBy, speedsOf}
-use Rattle.drive.specs.Stage.{isPlain, isSpecial, CurvesRight, CapRight, backwards, OrdersRight, ordered, RecordsRight, StageRight}
+use Rattle.drive.specs.Rounding.{nearestOf}
+use Rattle.drive.specs.Orders.{wheels, rightNumerator, leftNumerator, curveOf, beyond, capOf, speeds, given, refused, legalOrder, wheelsBy, speedsOf}
+use Rattle.drive.specs.Cases.{speedCases, speedRight}
+use Rattle.drive.specs.Stage.{isPlain, isSpecial, BothNearest, CurvesRight, backwards, OrdersRight, ordered, RecordsRight, StageRight}
 use Rattle.drive.specs.declared.Speeds.{Speeds}
 use Rattle.drive.specs.declared.Wheels.{Wheels}
 use Rattle.drive.proofs.RoundingLaws.{is-nearest, rounding-right}
-use Rattle.drive.proofs.OrdersLaws.{not-same, on-one, on-minus-one, on-straight, on-least, on-plain, turned, curve-odd, legal-none, legal-drive, legal-direct, legal-unnamed, cap-above, cap-below, cap-inside, cap-bounded, cap-odd, speeds-refused, speeds-given, by-drive, by-direct, by-none}
+use Rattle.drive.proofs.OrdersLaws.{not-same, on-one, on-minus-one, on-straight, on-least, on-plain, turned, curve-odd, legal-none, legal-drive, legal-direct, legal-unnamed, cap-above, cap-below, cap-inside, cap-bounded, cap-odd, speeds-refused, speeds-given}
 
 -- ---- a curve
 
@@ -70,7 +71,7 @@ module _ (r : ℤ) (e : isPlain r ≡ true) where
   plain-most : natAbs r ≤ 2000
   plain-most = leb-true (natAbs r) 2000 (tested .1)
 
-  plain-curve : (v : ℤ) → curveOf v r ≡ wheels (nearestOf (rightTimes v r) r) (nearestOf (leftTimes v r) r)
+  plain-curve : (v : ℤ) → curveOf v r ≡ wheels (nearestOf (rightNumerator v r) r) (nearestOf (leftNumerator v r) r)
   plain-curve v =
       on-plain v r
       (not-same r (pos 1) (λ (q : natAbs r ≡ 1). omega (arith, plain-least)))
@@ -78,22 +79,17 @@ module _ (r : ℤ) (e : isPlain r ≡ true) where
       (not-same r (pos 32767) (λ (q : natAbs r ≡ 32767). omega (arith, plain-most)))
       (not-same r (minus 32768) (λ (q : natAbs r ≡ 32768). omega (arith, plain-most)))
 
-  plain-right : (v : ℤ) → Nearest (rightTimes v r) r (curveOf v r .right)
-  plain-right v =
-      subst (λ (w : Wheels). Nearest (rightTimes v r) r (w .right)) (sym (plain-curve v))
-      (is-nearest (rightTimes v r) r (omega (arith, plain-least)))
-
-  plain-left : (v : ℤ) → Nearest (leftTimes v r) r (curveOf v r .left)
-  plain-left v =
-      subst (λ (w : Wheels). Nearest (leftTimes v r) r (w .left)) (sym (plain-curve v))
-      (is-nearest (leftTimes v r) r (omega (arith, plain-least)))
+  plain : (v : ℤ) → BothNearest v r (curveOf v r)
+  plain v =
+      let above : 0 < natAbs r = omega (arith, plain-least) in
+      subst (BothNearest v r) (sym (plain-curve v))
+      (record { right-nearest = is-nearest (rightNumerator v r) r above; left-nearest = is-nearest (leftNumerator v r) r above })
 
 curves-right : CurvesRight
 curves-right =
     record {
       radii = radii;
-      plain-right = λ v r e. plain-right r e v;
-      plain-left = λ v r e. plain-left r e v;
+      plain = λ v r e. plain r e v;
       counterclockwise = λ v. on-one v (pos 1) refl;
       clockwise = λ v. on-minus-one v (minus 1) refl;
       straight = λ v. on-straight v (pos 32767) refl;
@@ -137,9 +133,14 @@ flag-is v r e = ap (λ (s : Speeds). s .capped) (drive-is v r ∙ cond-true (isS
 abbrev number-of : Speeds → ℕ
 number-of s = s .number
 
--- what holds of every speed that is given, and of 0
-bounded : (P : Speeds → Type 0) (kind : ℕ) (a b : ℤ) → P (given (wheelsBy kind a b)) → P refused → P (speedsOf kind a b)
-bounded P kind a b g z = subst P (sym (by-legal kind a b)) (cond-is P (legalOrder kind a b) (λ e. g) (λ e. z))
+-- those that are given, and 0
+bounded : (kind : ℕ) (a b : ℤ) → (natAbs (speedsOf kind a b .right) ≤ 500) × (natAbs (speedsOf kind a b .left) ≤ 500)
+bounded kind a b =
+    let w = wheelsBy kind a b in
+    rw (by-legal kind a b)
+    (cond-is (λ (s : Speeds). (natAbs (s .right) ≤ 500) × (natAbs (s .left) ≤ 500)) (legalOrder kind a b)
+    (λ e. (cap-bounded (w .right), cap-bounded (w .left)))
+    (λ e. (omega arith, omega arith)))
 
 -- the legal speeds are the same both ways
 speed-minus : (n : ℕ) → isSpeed (negsuc n) ≡ isSpeed (pos (suc n))
@@ -174,8 +175,7 @@ orders-right =
       direct = direct-is;
       unnamed = λ kind a b h. speeds-refused kind a b (legal-unnamed kind a b h);
       flag = flag-is;
-      right-bounded = λ kind a b. bounded (λ s. natAbs (s .right) ≤ 500) kind a b (cap-bounded (wheelsBy kind a b .right)) (omega arith);
-      left-bounded = λ kind a b. bounded (λ s. natAbs (s .left) ≤ 500) kind a b (cap-bounded (wheelsBy kind a b .left)) (omega arith);
+      bounded = bounded;
       odd = odd;
     }
 
@@ -210,8 +210,11 @@ records-right =
 
 -- ---- all of it
 
-pub stage-right : StageRight
+cases-right : T (all speedRight speedCases)
 unfolding isIn isLegal rowOf legalOf orderNamed wheelsLegal nearestOf curveOf speedsOf
+cases-right = tt
+
+pub stage-right : StageRight
 stage-right =
     record {
       rounding = rounding-right;
@@ -219,5 +222,5 @@ stage-right =
       cap = record { above = cap-above; below = cap-below; inside = cap-inside };
       orders = orders-right;
       records = records-right;
-      cases = tt;
+      cases = cases-right;
     }

@@ -19,12 +19,12 @@ use Rattle.drive.specs.declared.Speeds.{Speeds}
 abbrev pub wheels : ℤ → ℤ → Wheels
 wheels right left = record { right = right; left = left }
 
--- of velocity v and radius r, what is divided by r: the wheel centres are 258 mm apart
-abbrev pub rightTimes : ℤ → ℤ → ℤ
-rightTimes v r = v *ℤ (r +ℤ pos 129)
+-- the exact speeds of velocity v and radius r are these over r: the wheel centres are 258 mm apart
+abbrev pub rightNumerator : ℤ → ℤ → ℤ
+rightNumerator v r = v *ℤ (r +ℤ pos 129)
 
-abbrev pub leftTimes : ℤ → ℤ → ℤ
-leftTimes v r = v *ℤ (r -ℤ pos 129)
+abbrev pub leftNumerator : ℤ → ℤ → ℤ
+leftNumerator v r = v *ℤ (r -ℤ pos 129)
 
 -- Drive: radius 1 turns counterclockwise, -1 clockwise, 32767 and -32768 go straight; any other is plain
 unfoldable pub curveOf : ℤ → ℤ → Wheels
@@ -32,7 +32,7 @@ curveOf v r =
     cond (sameNumber r (pos 1)) (wheels v (negℤ v))
     (cond (sameNumber r (minus 1)) (wheels (negℤ v) v)
     (cond (sameNumber r (pos 32767) || sameNumber r (minus 32768)) (wheels v v)
-    (wheels (nearestOf (rightTimes v r) r) (nearestOf (leftTimes v r) r))))
+    (wheels (nearestOf (rightNumerator v r) r) (nearestOf (leftNumerator v r) r))))
 
 -- by the kind of order: Direct passes through, and no order gives 0 and 0
 abbrev pub wheelsBy : ℕ → ℤ → ℤ → Wheels

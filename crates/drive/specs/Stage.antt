@@ -3,7 +3,7 @@
 use mathlib.Core.Path.{_≡_}
 use mathlib.Core.Bool.{Bool, true, false, cond, _&&_, _||_}
 use Prim.Native.Nat.{ℕ, _≤_, _<_}
-use lib.Dec.{T, leb}
+use lib.Dec.{T}
 use lib.IntN.{ℤ, pos, negℤ, natAbs}
 use lib.Signed.{ltZ}
 use Rattle.wire.specs.Lists.{all, within}
@@ -15,9 +15,10 @@ use Rattle.state.specs.Same.{sameNumber}
 use Rattle.state.specs.declared.Motors.{Motors}
 use Rattle.state.specs.declared.State.{State}
 use Rattle.drive.specs.Rounding.{Nearest, RoundingRight}
-use Rattle.drive.specs.Orders.{wheels, rightTimes, leftTimes, curveOf, beyond, capOf, speeds, given, refused, speedsOf}
+use Rattle.drive.specs.Orders.{wheels, rightNumerator, leftNumerator, curveOf, beyond, capOf, speeds, given, refused, speedsOf}
 use Rattle.drive.specs.Cases.{speedCases, speedRight}
 use Rattle.drive.specs.declared.Speeds.{Speeds}
+use Rattle.drive.specs.declared.Wheels.{Wheels}
 
 -- ---- a curve
 
@@ -29,13 +30,17 @@ isPlain r = within 2 2000 (natAbs r)
 abbrev pub isSpecial : ℤ → Bool
 isSpecial r = (sameNumber r (pos 1) || sameNumber r (minus 1)) || (sameNumber r (pos 32767) || sameNumber r (minus 32768))
 
+-- each wheel has the nearest to v(r + 129)/r, right, and v(r - 129)/r, left
+pub record BothNearest (v r : ℤ) (w : Wheels) : Type 0 where
+  pub right-nearest : Nearest (rightNumerator v r) r (w .right)
+  pub left-nearest : Nearest (leftNumerator v r) r (w .left)
+
 -- THEOREM: both wheels by velocity and radius, before the cap
 pub record CurvesRight : Type 0 where
   -- every legal radius is plain or special
   pub radii : (r : ℤ) → isRadius r ≡ (isPlain r || isSpecial r)
-  -- on a plain one each wheel has the nearest whole number to v(r + 129)/r or v(r - 129)/r, for every velocity
-  pub plain-right : (v r : ℤ) → isPlain r ≡ true → Nearest (rightTimes v r) r (curveOf v r .right)
-  pub plain-left : (v r : ℤ) → isPlain r ≡ true → Nearest (leftTimes v r) r (curveOf v r .left)
+  -- on a plain one each wheel has the nearest whole number to its exact speed, at every velocity
+  pub plain : (v r : ℤ) → isPlain r ≡ true → BothNearest v r (curveOf v r)
   -- 'Radius 1 turns counterclockwise (right v, left -v), -1 clockwise, 32767 and -32768 go straight'
   pub counterclockwise : (v : ℤ) → curveOf v (pos 1) ≡ wheels v (negℤ v)
   pub clockwise : (v : ℤ) → curveOf v (minus 1) ≡ wheels (negℤ v) v
@@ -69,8 +74,7 @@ pub record OrdersRight : Type 0 where
   -- the flag is set exactly when a rounded speed is beyond 500
   pub flag : (v r : ℤ) → (isSpeed v && isRadius r) ≡ true → speedsOf 1 v r .capped ≡ (beyond (curveOf v r .right) || beyond (curveOf v r .left))
   -- no wheel is ever told more
-  pub right-bounded : (kind : ℕ) (a b : ℤ) → natAbs (speedsOf kind a b .right) ≤ 500
-  pub left-bounded : (kind : ℕ) (a b : ℤ) → natAbs (speedsOf kind a b .left) ≤ 500
+  pub bounded : (kind : ℕ) (a b : ℤ) → (natAbs (speedsOf kind a b .right) ≤ 500) × (natAbs (speedsOf kind a b .left) ≤ 500)
   -- odd in the velocity
   pub odd : (v r : ℤ) → speedsOf 1 (negℤ v) r ≡ backwards (speedsOf 1 v r)
 

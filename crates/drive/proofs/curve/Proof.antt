@@ -5,7 +5,7 @@ use mathlib.Core.Bool.{false}
 use mathlib.Core.Logic.{⊎-elim, inl, inr}
 use Prim.Native.Nat.{ℕ}
 use native.Mathlib.Omega.{arith}
-use lib.IntN.{ℤ, pos, negℤ, natAbs, _-ℤ_, +ℤ-idl}
+use lib.IntN.{ℤ, pos, negℤ, _-ℤ_, +ℤ-idl}
 use lib.Signed.{natAbs-le}
 use mir.Facts.{toZ-ofZ}
 use mir.Syntax.{w16, w32}
@@ -17,7 +17,6 @@ use Rattle.wire.proofs.IntLaws.{abs-minus}
 use Rattle.wire.proofs.SignedLaws.{widened-fits}
 use Rattle.state.specs.Same.{sameNumber}
 use Rattle.state.proofs.SameLaws.{by-bits}
-use Rattle.drive.specs.Rounding.{nearestOf}
 use Rattle.drive.specs.Orders.{wheels}
 use Rattle.drive.proofs.OrdersLaws.{on-one, on-minus-one, on-straight, on-least, on-plain, held, wide, small, same}
 use Rattle.drive.proofs.curve.Statement.{statement}

@@ -1,6 +1,6 @@
 -- `drive::nearest` meets its contract: the quotient rounded toward zero, or the next number away from zero where twice the rest is no less than the divisor.
 -- Assumes nothing.
-use mathlib.Core.Path.{_≡_, sym, ap, _∙_}
+use mathlib.Core.Path.{_≡_, ap, _∙_}
 use mathlib.Core.Bool.{true, false, Bool·beq}
 use Prim.Native.Nat.{_+_, _*_, _≤_, _<_}
 use native.Mathlib.Nat.{div-le-self, mod-lt}
@@ -13,7 +13,6 @@ use mir.Val.{SFits, toZ, ofZ}
 use borrow.Author.Needs.{needs}
 use Rattle.wire.proofs.IntLaws.{mag-abs, abs-sum, abs-difference, quot-abs, rem-abs}
 use Rattle.wire.proofs.SignedLaws.{division-asks, quotient-held, remainder-held}
-use Rattle.drive.specs.Rounding.{nearestOf}
 use Rattle.drive.proofs.RoundingLaws.{stays, goes-up, goes-below}
 use Rattle.drive.proofs.nearest.Statement.{statement}
 use Rattle.drive.proofs.nearest.Tie as tie

@@ -1,15 +1,11 @@
 -- `drive::wheel_speeds` meets its contract: an illegal order is refused, and each arm knows the kind.
 -- Assumes nothing.
 use mathlib.Core.Path.{_≡_, sym, ap, _∙_}
-use mathlib.Core.Bool.{true, false, cond}
-use Prim.Native.Nat.{ℕ, _<_}
-use lib.IntN.{ℤ, pos, natAbs}
+use mathlib.Core.Bool.{true}
 use mir.Facts.{toZ-ofZ}
-use mir.Syntax.{w16, w32}
-use mir.Val.{SFits, toZ, ofZ}
+use mir.Syntax.{w32}
 use borrow.Author.Needs.{needs}
-use borrow.Author.Tests.{not-true, not-false, ne-eqb}
-use Rattle.wire.proofs.BoolLaws.{cond-true, cond-false}
+use borrow.Author.Tests.{not-true, not-false}
 use Rattle.wire.proofs.SignedLaws.{widened-fits}
 use Rattle.drive.specs.Orders.{wheels, given, legalOrder}
 use Rattle.drive.proofs.OrdersLaws.{radius-above, speeds-refused, speeds-given, by-drive, by-direct, by-none, same}
