@@ -1,4 +1,4 @@
--- Laws of the speeds: by the radius, and in 32 bits.
+-- Laws of the speeds: by the radius, which orders are legal, the cap, what comes back; and numbers in 32 bits.
 -- Assumes nothing.
 use mathlib.Core.Path.{_≡_, refl, sym, ap, subst, _∙_}
 use mathlib.Core.Bool.{Bool, true, false, not, cond, _&&_, _||_}
@@ -120,31 +120,22 @@ cap-below (pos n) e = absurd (subst T (sym e) tt)
 cap-below (negsuc n) e = (simp e, lt-ltb 500 (suc n) (let h = ltb-true 499 n e in omega arith))
 
 -- neither above nor below is within
-pub within-cap : (s : ℤ) → ltZ (pos 500) s ≡ false → ltZ s (minus 500) ≡ false → natAbs s ≤ 500
+within-cap : (s : ℤ) → ltZ (pos 500) s ≡ false → ltZ s (minus 500) ≡ false → natAbs s ≤ 500
 within-cap (pos n) e f = ltb-false 500 n e
 within-cap (negsuc n) e f = let h = ltb-false 499 n f in omega arith
 
-pub cap-inside : (s : ℤ) → ltZ (pos 500) s ≡ false → ltZ s (minus 500) ≡ false → (capOf s ≡ s) × (beyond s ≡ false)
-cap-inside s e f = (simp (e, f), le-ltb 500 (natAbs s) (within-cap s e f))
+-- and is kept
+pub cap-keeps : (s : ℤ) → natAbs s ≤ 500 → (capOf s ≡ s) × (beyond s ≡ false)
+cap-keeps (pos n) h = (simp (le-ltb 500 n h), le-ltb 500 n h)
+cap-keeps (negsuc n) h = (simp (le-ltb 499 n (omega arith)), le-ltb 500 (suc n) h)
 
--- a speed above, below, or within the cap
-by-cap : (P : ℤ → Type 0) (s : ℤ) → P (pos 500) → P (minus 500) → (natAbs s ≤ 500 → P s) → P (capOf s)
-by-cap P s a b c =
-    cond-is P (ltZ (pos 500) s) (λ e. a)
-    (λ e. cond-is P (ltZ s (minus 500)) (λ f. b) (λ f. c (within-cap s e f)))
+pub cap-inside : (s : ℤ) → ltZ (pos 500) s ≡ false → ltZ s (minus 500) ≡ false → (capOf s ≡ s) × (beyond s ≡ false)
+cap-inside s e f = cap-keeps s (within-cap s e f)
 
 pub cap-bounded : (s : ℤ) → natAbs (capOf s) ≤ 500
-cap-bounded s = by-cap (λ z. natAbs z ≤ 500) s (omega arith) (omega arith) (λ h. h)
-
-cap-minus : (n : ℕ) → capOf (pos (suc n)) ≡ negℤ (capOf (negsuc n))
-cap-minus n =
-    ⊎-elim (λ (h : n ≤ 499). simp (le-ltb 500 (suc n) (omega arith), le-ltb 499 n h))
-    (λ (h : 499 < n). simp (lt-ltb 500 (suc n) (omega arith), lt-ltb 499 n h)) (le-or-lt n 499)
-
--- within it nothing is changed
-cap-keeps : (s : ℤ) → natAbs s ≤ 500 → capOf s ≡ s
-cap-keeps (pos n) h = simp (le-ltb 500 n h)
-cap-keeps (negsuc n) h = simp (le-ltb 499 n (omega arith))
+cap-bounded s =
+    cond-is (λ (z : ℤ). natAbs z ≤ 500) (ltZ (pos 500) s) (λ e. omega arith)
+    (λ e. cond-is (λ (z : ℤ). natAbs z ≤ 500) (ltZ s (minus 500)) (λ f. omega arith) (λ f. within-cap s e f))
 
 -- a speed is beyond where the cap changes it
 pub cap-changes : (s : ℤ) → not (sameNumber (capOf s) s) ≡ beyond s
@@ -152,7 +143,12 @@ cap-changes s = go (beyond s) refl
   where
     go : (t : Bool) → beyond s ≡ t → not (sameNumber (capOf s) s) ≡ beyond s
     go true e = ap not (not-same (capOf s) s (λ q. omega (arith, q, cap-bounded s, ltb-true 500 (natAbs s) e))) ∙ sym e
-    go false e = ap (λ (z : ℤ). not (sameNumber z s)) (cap-keeps s (ltb-false 500 (natAbs s) e)) ∙ ap not (number-self s) ∙ sym e
+    go false e = ap (λ (z : ℤ). not (sameNumber z s)) (cap-keeps s (ltb-false 500 (natAbs s) e) .0) ∙ ap not (number-self s) ∙ sym e
+
+cap-minus : (n : ℕ) → capOf (pos (suc n)) ≡ negℤ (capOf (negsuc n))
+cap-minus n =
+    ⊎-elim (λ (h : n ≤ 499). simp (le-ltb 500 (suc n) (omega arith), le-ltb 499 n h))
+    (λ (h : 499 < n). simp (lt-ltb 500 (suc n) (omega arith), lt-ltb 499 n h)) (le-or-lt n 499)
 
 pub cap-odd : (s : ℤ) → capOf (negℤ s) ≡ negℤ (capOf s)
 cap-odd (pos zero) = refl

@@ -208,11 +208,14 @@ module _ (n d : ℤ) (h : 0 < natAbs d) where
   apart-is : (z : ℤ) (k : ℕ) → towards n d z ≡ pos k → distance n d z ≡ apart (D * k) A
   apart-is z k e = distance-is n d z ∙ ap (λ (x : ℤ). natAbs (pos D *ℤ x -ℤ pos A)) e ∙ abs-apart (D * k) A
 
+  twice-apart : (z : ℤ) (k : ℕ) → towards n d z ≡ pos k → 2 * distance n d z ≡ 2 * apart (D * k) A
+  twice-apart z k e = ap (λ (x : ℕ). 2 * x) (apart-is z k e)
+
   half-way : (z : ℤ) (k : ℕ) → towards n d z ≡ pos k → Between A D k → HalfWay n d s z
   half-way z k e b =
       record {
-        one = ap (λ (x : ℕ). 2 * x) (apart-is s (halfUp A D) s-turned) ∙ b .0 .1;
-        other = ap (λ (x : ℕ). 2 * x) (apart-is z k e) ∙ b .0 .0;
+        one = twice-apart s (halfUp A D) s-turned ∙ b .0 .1;
+        other = twice-apart z k e ∙ b .0 .0;
         further = s-abs ∙ b .1 ∙ ap (λ (x : ℕ). x + 1) (sym (sym (turned-abs n d z) ∙ ap natAbs e));
       }
 
@@ -224,18 +227,22 @@ module _ (n d : ℤ) (h : 0 < natAbs d) where
   near-at z (negsuc k) e near =
       absurd (not-negative A D h k (rw (distance-is n d z ∙ ap (λ (x : ℤ). natAbs (pos D *ℤ x -ℤ pos A)) e) at near))
 
+  -- at a half, the other
+  other-way : 2 * distance n d s ≡ D → HalfWay n d s (towards n d (pos (halfUp A D - 1)))
+  other-way e =
+      half-way (towards n d (pos (halfUp A D - 1))) (halfUp A D - 1) (turned-back n d (pos (halfUp A D - 1)))
+      (half-other A D h (sym (twice-apart s (halfUp A D) s-turned) ∙ e))
+
   pub is-nearest : Nearest n d s
   is-nearest =
       record {
         near = rw (apart-is s (halfUp A D) s-turned) (half-near A D h);
         only = λ z near. near-at z (towards n d z) refl near;
-        half = λ e.
-            (let z = towards n d (pos (halfUp A D - 1)) in (
-              z,
-              half-way z (halfUp A D - 1) (turned-back n d (pos (halfUp A D - 1)))
-                  (half-other A D h (sym (ap (λ (x : ℕ). 2 * x) (apart-is s (halfUp A D) s-turned)) ∙ e)),
-            ));
+        half = λ e. (towards n d (pos (halfUp A D - 1)), other-way e);
       }
+
+pub rounding-right : RoundingRight
+rounding-right n d ne = is-nearest n d (abs-above d ne)
 
 -- ---- odd
 
@@ -257,6 +264,3 @@ nearest-odd (pos (suc a)) (pos b) = refl
 nearest-odd (pos (suc a)) (negsuc b) = sym (negℤ-negℤ (pos (halfUp (suc a) (suc b))))
 nearest-odd (negsuc a) (pos b) = sym (negℤ-negℤ (pos (halfUp (suc a) b)))
 nearest-odd (negsuc a) (negsuc b) = refl
-
-pub rounding-right : RoundingRight
-rounding-right n d ne = is-nearest n d (abs-above d ne)

@@ -7,7 +7,7 @@ use Prim.Native.Nat.{ℕ, zero, suc, _≤_, _<_}
 use native.Mathlib.Omega.{arith}
 use lib.Dec.{T, eqb, leb, ltb, leb·suc-suc}
 use lib.IntN.{ℤ, pos, negsuc, negℤ, natAbs}
-use borrow.Author.Tests.{le-ltb, lt-leb, le-leb, leb-true, ne-eqb, eq-eqb}
+use borrow.Author.Tests.{lt-leb, le-leb, leb-true, ne-eqb, eq-eqb}
 use Rattle.wire.specs.Lists.{all}
 use Rattle.wire.specs.Sixteen.{minus}
 use Rattle.wire.proofs.BoolLaws.{le-or-lt, both, cond-true, cond-is}
@@ -21,13 +21,13 @@ use Rattle.state.specs.declared.State.{State}
 use Rattle.state.proofs.StateLaws.{off-order}
 use Rattle.state.proofs.RecordProved.{accepted-exactly}
 use Rattle.drive.specs.Rounding.{nearestOf}
-use Rattle.drive.specs.Orders.{wheels, rightNumerator, leftNumerator, curveOf, beyond, capOf, speeds, given, refused, legalOrder, wheelsBy, speedsOf}
+use Rattle.drive.specs.Orders.{wheels, rightNumerator, leftNumerator, curveOf, beyond, speeds, given, refused, legalOrder, wheelsBy, speedsOf}
 use Rattle.drive.specs.Cases.{speedCases, speedRight}
 use Rattle.drive.specs.Stage.{isPlain, isSpecial, BothNearest, CurvesRight, backwards, OrdersRight, ordered, RecordsRight, StageRight}
 use Rattle.drive.specs.declared.Speeds.{Speeds}
 use Rattle.drive.specs.declared.Wheels.{Wheels}
 use Rattle.drive.proofs.RoundingLaws.{is-nearest, rounding-right}
-use Rattle.drive.proofs.OrdersLaws.{not-same, on-one, on-minus-one, on-straight, on-least, on-plain, turned, curve-odd, legal-none, legal-drive, legal-direct, legal-unnamed, cap-above, cap-below, cap-inside, cap-bounded, cap-odd, speeds-refused, speeds-given}
+use Rattle.drive.proofs.OrdersLaws.{not-same, on-one, on-minus-one, on-straight, on-least, on-plain, turned, curve-odd, legal-none, legal-drive, legal-direct, legal-unnamed, cap-above, cap-below, cap-keeps, cap-inside, cap-bounded, cap-odd, speeds-refused, speeds-given}
 
 -- ---- a curve
 
@@ -109,15 +109,15 @@ none-stands a b = speeds-given 0 a b (legal-none a b) refl
 drive-is : (v r : ℤ) → speedsOf 1 v r ≡ cond (isSpeed v && isRadius r) (given (curveOf v r)) refused
 drive-is v r = by-legal 1 v r ∙ ap (λ (t : Bool). cond t (given (curveOf v r)) refused) (legal-drive v r)
 
--- a legal speed is not capped
-uncapped : (a : ℤ) → isSpeed a ≡ true → (capOf a ≡ a) × (beyond a ≡ false)
-uncapped (pos n) e = cap-inside (pos n) (le-ltb 500 n (leb-true n 500 e)) refl
-uncapped (negsuc n) e = cap-inside (negsuc n) refl (le-ltb 499 n (leb-true n 499 (both (leb n 499) true e .0)))
+-- a legal speed is within the cap
+speed-within : (a : ℤ) → isSpeed a ≡ true → natAbs a ≤ 500
+speed-within (pos n) e = leb-true n 500 e
+speed-within (negsuc n) e = let h = leb-true n 499 (both (leb n 499) true e .0) in omega arith
 
 passes : (a b : ℤ) → (isSpeed a && isSpeed b) ≡ true → given (wheels a b) ≡ speeds a b false
 passes a b e =
-    let right = uncapped a (both (isSpeed a) (isSpeed b) e .0) in
-    let left = uncapped b (both (isSpeed a) (isSpeed b) e .1) in
+    let right = cap-keeps a (speed-within a (both (isSpeed a) (isSpeed b) e .0)) in
+    let left = cap-keeps b (speed-within b (both (isSpeed a) (isSpeed b) e .1)) in
     λ i. speeds (right .0 i) (left .0 i) (right .1 i || left .1 i)
 
 direct-is : (a b : ℤ) → speedsOf 2 a b ≡ cond (isSpeed a && isSpeed b) (speeds a b false) refused
