@@ -15,8 +15,8 @@ use mir.Val.{SFits, toZ, ofZ}
 use borrow.Author.Tests.{lt-ltb, le-ltb}
 use Rattle.wire.specs.Sixteen.{minus}
 use Rattle.wire.proofs.BoolLaws.{le-or-lt}
-use Rattle.wire.proofs.SignedLaws.{widened}
-use Rattle.wire.proofs.IntLaws.{twice, twice-other, sum-times, minus-times, mag-abs, abs-minus, abs-times, abs-sub, abs-apart, abs-backwards, abs-sum, abs-exchanged, abs-above, same-factor}
+use Rattle.wire.proofs.SignedLaws.{abs-fits, wide, wide-is}
+use Rattle.wire.proofs.IntLaws.{twice, twice-other, sum-times, minus-times, abs-minus, abs-times, abs-sub, abs-apart, abs-backwards, abs-sum, abs-exchanged, abs-above, same-factor}
 use Rattle.state.specs.declared.Motors.{Motors}
 use Rattle.board.specs.Calls.{backsRound, intoCliff}
 
@@ -130,20 +130,16 @@ by-slower p q h =
 
 -- ---- two wheels in 32 bits
 
--- as the machine has a number of sixteen bits there
-abbrev wide : ℤ → ℤ
-wide z = toZ w32 (ofZ w32 (toZ w16 (ofZ w16 z)))
-
 -- the sum, or the difference
 module _ (op : ℤ → ℤ → ℤ) (bound : (x y : ℤ) → natAbs (op x y) ≤ natAbs x + natAbs y) {a b : ℤ} (f : SFits w16 a) (g : SFits w16 b) where
   same : op (wide a) (wide b) ≡ op a b
-  same i = op (widened w32 tt f refl i) (widened w32 tt g refl i)
+  same i = op (wide-is f i) (wide-is g i)
 
   bounded : natAbs (op a b) ≤ 65536
   bounded = omega (arith, bound a b, natAbs-le a (f .sfits), natAbs-le b (g .sfits))
 
   pub op-fits : SFits w32 (op (wide a) (wide b))
-  op-fits = rw same (record { sfits = omega (arith, mag-abs (op a b), bounded) })
+  op-fits = rw same (abs-fits (omega (arith, bounded)))
 
   -- what is known of a result that is the absolute value of what the machine computed
   module _ {r : ℕ} (e : r ≡ natAbs (toZ w32 (ofZ w32 (op (wide a) (wide b))))) where

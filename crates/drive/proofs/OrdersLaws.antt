@@ -1,4 +1,4 @@
--- Laws of the speeds: by the radius, which orders are legal, the cap, what comes back; and numbers in 32 bits.
+-- Laws of the speeds: by the radius, which orders are legal, the cap, what comes back.
 -- Assumes nothing.
 use mathlib.Core.Path.{_≡_, refl, sym, ap, subst, _∙_}
 use mathlib.Core.Bool.{Bool, true, false, not, cond, _&&_, _||_}
@@ -9,13 +9,10 @@ use lib.Dec.{T}
 use lib.IntN.{ℤ, pos, negsuc, negℤ, natAbs, _+ℤ_, _-ℤ_, _*ℤ_, negℤ-negℤ}
 use lib.ListN.{replicate}
 use lib.Signed.{ltZ}
-use mir.Syntax.{w16, w32}
-use mir.Val.{SFits, toZ, ofZ}
 use borrow.Author.Tests.{lt-ltb, le-ltb, ltb-true, ltb-false, ne-eqb}
 use Rattle.wire.specs.Sixteen.{minus}
 use Rattle.wire.proofs.BoolLaws.{to-T, le-or-lt, both, cond-true, cond-false, cond-is}
-use Rattle.wire.proofs.IntLaws.{minus-times, mag-abs, abs-above}
-use Rattle.wire.proofs.SignedLaws.{widened}
+use Rattle.wire.proofs.IntLaws.{minus-times, abs-above}
 use Rattle.command.specs.Commands.{isSpeed, isRadius}
 use Rattle.command.proofs.CommandTableLaws.{drive-legal, direct-legal}
 use Rattle.state.specs.Accepted.{orderNamed, wheelsLegal}
@@ -174,18 +171,3 @@ module _ (kind : ℕ) (a b : ℤ) where
 
   pub by-none : (kind ≡ 1 → ⊥) → (kind ≡ 2 → ⊥) → wheelsBy kind a b ≡ wheels (pos 0) (pos 0)
   by-none n m = simp (ne-eqb kind 1 n, ne-eqb kind 2 m)
-
--- ---- in 32 bits
-
--- a number as the machine has it there, and one of sixteen
-abbrev pub held : ℤ → ℤ
-held z = toZ w32 (ofZ w32 z)
-
-abbrev pub wide : ℤ → ℤ
-wide z = held (toZ w16 (ofZ w16 z))
-
-pub small : {z : ℤ} → natAbs z < 2147483648 → SFits w32 z
-small {z} h = record { sfits = omega (arith, mag-abs z, h) }
-
-pub same : {v : ℤ} → SFits w16 v → wide v ≡ v
-same f = widened w32 tt f refl

@@ -75,9 +75,6 @@ minus-times (negsuc m) (negsuc n) = refl
 pub times-minus : (m k : ℤ) → m *ℤ negℤ k ≡ negℤ (m *ℤ k)
 times-minus m k = *ℤ-comm m (negℤ k) ∙ minus-times k m ∙ ap negℤ (*ℤ-comm k m)
 
-pub both-minus : (m k : ℤ) → negℤ m *ℤ negℤ k ≡ m *ℤ k
-both-minus m k = minus-times m (negℤ k) ∙ ap negℤ (times-minus m k) ∙ negℤ-negℤ (m *ℤ k)
-
 -- ---- absolute values
 
 pub mag-abs : (z : ℤ) → mag z ≤ natAbs z

@@ -11,7 +11,7 @@ use lib.IntN.{ℤ, pos, negsuc, natAbs, _-ℤ_}
 use lib.Pow.{pow-pos}
 use lib.Signed.{ltZ, mag, mag-rem, nonNeg, quotZ, remZ}
 use mir.Facts.{toZ-ofZ, toZ-pos, sfits-widen}
-use mir.Syntax.{Width}
+use mir.Syntax.{Width, w16, w32}
 use mir.Val.{hbits, Fits, SFits, toZ, ofZ}
 use mir.ValLaws.{half-full}
 use borrow.Author.Tests.{le-ltb, lt-ltb}
@@ -80,6 +80,10 @@ module _ {w : Width} (v : ℤ) (f : SFits w v) where
   pub above-cast : ltZ (toZ w (ofZ w v)) (pos 0) ≡ false → Unsigned w (toZ w (ofZ w v))
   above-cast e = rw (above e) (tt, record { fits = half-full w (f .sfits) })
 
+-- a number that is small enough without its sign
+pub abs-fits : {w : Width} {z : ℤ} → natAbs z < 2 ^ hbits w → SFits w z
+abs-fits {w} {z} h = record { sfits = omega (arith, mag-abs z, h) }
+
 -- a number in a width that is no less
 module _ {w : Width} (w′ : Width) {v : ℤ} (wide : T (leb (hbits w) (hbits w′))) (f : SFits w v) where
   pub widened-fits : SFits w′ (toZ w (ofZ w v))
@@ -87,6 +91,13 @@ module _ {w : Width} (w′ : Width) {v : ℤ} (wide : T (leb (hbits w) (hbits w�
 
   pub widened : {r : ℤ} → r ≡ toZ w (ofZ w v) → toZ w′ (ofZ w′ r) ≡ v
   widened e = ap (λ (z : ℤ). toZ w′ (ofZ w′ z)) (e ∙ toZ-ofZ f) ∙ toZ-ofZ (sfits-widen wide f)
+
+-- a number of sixteen bits as the machine has it in 32
+abbrev pub wide : ℤ → ℤ
+wide z = toZ w32 (ofZ w32 (toZ w16 (ofZ w16 z)))
+
+pub wide-is : {z : ℤ} → SFits w16 z → wide z ≡ z
+wide-is f = widened w32 tt f refl
 
 -- the machine's division of n by d
 module _ {w : Width} {n d : ℤ} (f : SFits w n) (g : SFits w d) where
@@ -104,7 +115,7 @@ module _ {w : Width} {n d : ℤ} (f : SFits w n) (g : SFits w d) where
   -- the quotient of the least number by -1 alone has no room
   module _ (k : natAbs n < 2 ^ hbits w) where
     quotient-fits : SFits w (quotZ n d)
-    quotient-fits = record { sfits = omega (arith, k, mag-abs (quotZ n d), quot-abs n d, div-le-self (natAbs n) (natAbs d)) }
+    quotient-fits = abs-fits (omega (arith, k, quot-abs n d, div-le-self (natAbs n) (natAbs d)))
 
     -- what a division and its remainder ask
     pub division-asks : 0 < natAbs d → (0 < ofZ w d) × SFits w (quotZ (toZ w (ofZ w n)) (toZ w (ofZ w d)))

@@ -10,24 +10,24 @@ use mir.Syntax.{w16, w32}
 use mir.Val.{SFits, toZ, ofZ}
 use borrow.Author.Needs.{needs}
 use borrow.Author.Tests.{eq-eqb, ne-eqb}
-use Rattle.wire.proofs.IntLaws.{mag-abs}
+use Rattle.wire.proofs.SignedLaws.{abs-fits}
 use Rattle.state.specs.Same.{sameNumber}
 use Rattle.state.proofs.SameLaws.{by-bits}
 use Rattle.drive.specs.Orders.{beyond, capOf, speeds, given}
 use Rattle.drive.specs.declared.Wheels.{Wheels}
-use Rattle.drive.proofs.OrdersLaws.{cap-bounded, cap-changes, held}
+use Rattle.drive.proofs.OrdersLaws.{cap-bounded, cap-changes}
 use Rattle.drive.proofs.cap_both.Statement.{statement}
 use Rattle.drive.proofs.cap_both.Tie as tie
 
 -- a speed s in 32 bits, and what came back of its cap
-module _ {s r : ℤ} (f : SFits w32 s) (g : SFits w32 r) (e : r ≡ capOf (held s)) where
+module _ {s r : ℤ} (f : SFits w32 s) (g : SFits w32 r) (e : r ≡ capOf (toZ w32 (ofZ w32 s))) where
   capped : r ≡ capOf s
   capped = rw (toZ-ofZ f) at e
 
-  cast-fits : SFits w16 (held r)
-  cast-fits = rw (toZ-ofZ g ∙ capped) (record { sfits = omega (arith, mag-abs (capOf s), cap-bounded s) })
+  cast-fits : SFits w16 (toZ w32 (ofZ w32 r))
+  cast-fits = rw (toZ-ofZ g ∙ capped) (abs-fits (omega (arith, cap-bounded s)))
 
-  cast-held : toZ w16 (ofZ w16 (held r)) ≡ capOf s
+  cast-held : toZ w16 (ofZ w16 (toZ w32 (ofZ w32 r))) ≡ capOf s
   cast-held = toZ-ofZ cast-fits ∙ toZ-ofZ g ∙ capped
 
   changed : not (eqb (ofZ w32 r) (ofZ w32 s)) ≡ beyond s
@@ -52,7 +52,7 @@ module _ (c : tie.After-cap2) where
 
   -- with the flag of both
   whole : {t : Bool} → t ≡ (beyond (w .right) || beyond (w .left))
-      → speeds (toZ w16 (ofZ w16 (held (c .before .before .cap .result)))) (toZ w16 (ofZ w16 (held (c .cap2 .result)))) t ≡ given w
+      → speeds (toZ w16 (ofZ w16 (toZ w32 (ofZ w32 (c .before .before .cap .result))))) (toZ w16 (ofZ w16 (toZ w32 (ofZ w32 (c .cap2 .result))))) t ≡ given w
   whole flag i =
       speeds (cast-held right-fits right-given (c .before .before .cap .ensures) i) (cast-held left-fits left-given (c .cap2 .ensures) i) (flag i)
 

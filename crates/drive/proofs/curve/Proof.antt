@@ -14,23 +14,23 @@ use borrow.Author.Needs.{needs}
 use borrow.Author.Tests.{ne-eqb}
 use Rattle.wire.specs.Sixteen.{minus}
 use Rattle.wire.proofs.IntLaws.{abs-minus}
-use Rattle.wire.proofs.SignedLaws.{widened-fits}
+use Rattle.wire.proofs.SignedLaws.{abs-fits, widened-fits, wide, wide-is}
 use Rattle.state.specs.Same.{sameNumber}
 use Rattle.state.proofs.SameLaws.{by-bits}
 use Rattle.drive.specs.Orders.{wheels}
-use Rattle.drive.proofs.OrdersLaws.{on-one, on-minus-one, on-straight, on-least, on-plain, held, wide, small, same}
+use Rattle.drive.proofs.OrdersLaws.{on-one, on-minus-one, on-straight, on-least, on-plain}
 use Rattle.drive.proofs.curve.Statement.{statement}
 use Rattle.drive.proofs.curve.Tie as tie
 
 -- -v is computed as 0 - v
 module _ {v : ℤ} (f : SFits w16 v) where
   minus-is : pos 0 -ℤ wide v ≡ negℤ v
-  minus-is = +ℤ-idl (negℤ (wide v)) ∙ ap negℤ (same f)
+  minus-is = +ℤ-idl (negℤ (wide v)) ∙ ap negℤ (wide-is f)
 
   minus-fits : SFits w32 (pos 0 -ℤ wide v)
-  minus-fits = rw minus-is (small (omega (arith, abs-minus v, natAbs-le v (f .sfits))))
+  minus-fits = rw minus-is (abs-fits (omega (arith, abs-minus v, natAbs-le v (f .sfits))))
 
-  minus-held : held (pos 0 -ℤ wide v) ≡ negℤ v
+  minus-held : toZ w32 (ofZ w32 (pos 0 -ℤ wide v)) ≡ negℤ v
   minus-held = toZ-ofZ minus-fits ∙ minus-is
 
 -- a radius by its bits
@@ -44,19 +44,19 @@ module _ {r : ℤ} (f : SFits w16 r) where
 returns : tie.Need-returns
 returns c =
     let f = c .before .fits in
-    (λ i. wheels (same (f .velocity) i) (minus-held (f .velocity) i)) ∙ sym (on-one _ _ (found (f .radius) 1 (c .match .keys1)))
+    (λ i. wheels (wide-is (f .velocity) i) (minus-held (f .velocity) i)) ∙ sym (on-one _ _ (found (f .radius) 1 (c .match .keys1)))
 
 returns-2 : tie.Need-returns-2
 returns-2 c =
     let f = c .before .fits in
-    (λ i. wheels (minus-held (f .velocity) i) (same (f .velocity) i)) ∙ sym (on-minus-one _ _ (found (f .radius) 65535 (c .match .keys2)))
+    (λ i. wheels (minus-held (f .velocity) i) (wide-is (f .velocity) i)) ∙ sym (on-minus-one _ _ (found (f .radius) 65535 (c .match .keys2)))
 
 returns-3 : tie.Need-returns-3
 returns-3 c =
     let f = c .before .fits in
     let v = c .before .args .velocity in
     let r = c .before .args .radius in
-    (λ i. wheels (same (f .velocity) i) (same (f .velocity) i))
+    (λ i. wheels (wide-is (f .velocity) i) (wide-is (f .velocity) i))
     ∙ sym (⊎-elim (λ (e : ofZ w16 r ≡ 32768). on-least v r (found (f .radius) 32768 e)) (λ (e : ofZ w16 r ≡ 32767). on-straight v r (found (f .radius) 32767 e)) (c .match .keys3))
 
 returns-4 : tie.Need-returns-4

@@ -11,8 +11,8 @@ use mir.Facts.{toZ-ofZ}
 use mir.Syntax.{w32}
 use mir.Val.{SFits, toZ, ofZ}
 use borrow.Author.Needs.{needs}
-use Rattle.wire.proofs.IntLaws.{mag-abs, abs-sum, abs-difference, quot-abs, rem-abs}
-use Rattle.wire.proofs.SignedLaws.{division-asks, quotient-held, remainder-held}
+use Rattle.wire.proofs.IntLaws.{abs-sum, abs-difference, quot-abs, rem-abs}
+use Rattle.wire.proofs.SignedLaws.{abs-fits, division-asks, quotient-held, remainder-held}
 use Rattle.drive.proofs.RoundingLaws.{stays, goes-up, goes-below}
 use Rattle.drive.proofs.nearest.Statement.{statement}
 use Rattle.drive.proofs.nearest.Tie as tie
@@ -26,10 +26,7 @@ module _ (op : ℤ → ℤ → ℤ) (bound : (x y : ℤ) → natAbs (op x y) ≤
   next-fits : SFits w32 (op (held n d) (pos 1))
   next-fits =
       let q = quotient-held f g (omega (arith, k)) in
-      rw q
-      (record {
-        sfits = omega (arith, k, mag-abs (op (quotZ n d) (pos 1)), bound (quotZ n d) (pos 1), quot-abs n d, div-le-self (natAbs n) (natAbs d));
-      })
+      rw q (abs-fits (omega (arith, k, bound (quotZ n d) (pos 1), quot-abs n d, div-le-self (natAbs n) (natAbs d))))
 
   next-held : toZ w32 (ofZ w32 (op (held n d) (pos 1))) ≡ op (quotZ n d) (pos 1)
   next-held = toZ-ofZ next-fits ∙ ap (λ (z : ℤ). op z (pos 1)) (quotient-held f g (omega (arith, k)))

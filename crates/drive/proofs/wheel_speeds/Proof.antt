@@ -6,9 +6,9 @@ use mir.Facts.{toZ-ofZ}
 use mir.Syntax.{w32}
 use borrow.Author.Needs.{needs}
 use borrow.Author.Tests.{not-true, not-false}
-use Rattle.wire.proofs.SignedLaws.{widened-fits}
+use Rattle.wire.proofs.SignedLaws.{widened-fits, wide-is}
 use Rattle.drive.specs.Orders.{wheels, given, legalOrder}
-use Rattle.drive.proofs.OrdersLaws.{radius-above, speeds-refused, speeds-given, by-drive, by-direct, by-none, same}
+use Rattle.drive.proofs.OrdersLaws.{radius-above, speeds-refused, speeds-given, by-drive, by-direct, by-none}
 use Rattle.drive.proofs.wheel_speeds.Statement.{statement}
 use Rattle.drive.proofs.wheel_speeds.Tie as tie
 
@@ -39,7 +39,7 @@ returns-3 c =
     let arm = c .before in
     let start = arm .before .before .before in
     c .cap-both2 .ensures
-    ∙ (λ i. given (wheels (same (start .fits .first) i) (same (start .fits .second) i)))
+    ∙ (λ i. given (wheels (wide-is (start .fits .first) i) (wide-is (start .fits .second) i)))
     ∙ sym (speeds-given _ _ _ (legal (arm .before)) (by-direct _ _ _ (arm .match .keys2)))
 
 returns-4 : tie.Need-returns-4
