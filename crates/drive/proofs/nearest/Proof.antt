@@ -1,7 +1,7 @@
 -- `drive::nearest` meets its contract: the quotient rounded toward zero, or the next number away from zero where twice the rest is no less than the divisor.
 -- Assumes nothing.
 use mathlib.Core.Path.{_≡_, ap, _∙_}
-use mathlib.Core.Bool.{true, false, Bool·beq}
+use mathlib.Core.Bool.{Bool, Bool·beq}
 use Prim.Native.Nat.{_+_, _*_, _≤_, _<_}
 use native.Mathlib.Nat.{div-le-self, mod-lt}
 use native.Mathlib.Omega.{arith}
@@ -60,23 +60,23 @@ returns c =
 half : (c : tie.Else1) → natAbs (c .before .before .before .args .d) ≤ 2 * natAbs (remZ (c .before .before .before .args .n) (c .before .before .before .args .d))
 half c = omega (arith, c .if1 .left, rest-is (c .before .before), divisor-is (c .before))
 
+-- the test of the signs, of the numbers that the bits stand for
+signs : (c : tie.Start) {t : Bool}
+    → Bool·beq (ltZ (toZ w32 (ofZ w32 (c .args .n))) (pos 0)) (ltZ (toZ w32 (ofZ w32 (c .args .d))) (pos 0)) ≡ t
+    → Bool·beq (ltZ (c .args .n) (pos 0)) (ltZ (c .args .d) (pos 0)) ≡ t
+signs c e = rw (toZ-ofZ (c .fits .n), toZ-ofZ (c .fits .d)) at e
+
 returns-2 : tie.Need-returns-2
 returns-2 c =
     let start = c .before .before .before .before in
-    let a = start .args in
-    let f = start .fits in
-    let signs : Bool·beq (ltZ (toZ w32 (ofZ w32 (a .n))) (pos 0)) (ltZ (toZ w32 (ofZ w32 (a .d))) (pos 0)) ≡ true = c .if2 .taken in
-    next-held _+ℤ_ abs-sum (f .n) (f .d) (start .pre .1)
-    ∙ goes-up (a .n) (a .d) (start .pre .0) (half (c .before)) (rw (toZ-ofZ (f .n), toZ-ofZ (f .d)) at signs)
+    next-held _+ℤ_ abs-sum (start .fits .n) (start .fits .d) (start .pre .1)
+    ∙ goes-up (start .args .n) (start .args .d) (start .pre .0) (half (c .before)) (signs start (c .if2 .taken))
 
 returns-3 : tie.Need-returns-3
 returns-3 c =
     let start = c .before .before .before .before in
-    let a = start .args in
-    let f = start .fits in
-    let signs : Bool·beq (ltZ (toZ w32 (ofZ w32 (a .n))) (pos 0)) (ltZ (toZ w32 (ofZ w32 (a .d))) (pos 0)) ≡ false = c .if2 .left in
-    next-held _-ℤ_ abs-difference (f .n) (f .d) (start .pre .1)
-    ∙ goes-below (a .n) (a .d) (start .pre .0) (half (c .before)) (rw (toZ-ofZ (f .n), toZ-ofZ (f .d)) at signs)
+    next-held _-ℤ_ abs-difference (start .fits .n) (start .fits .d) (start .pre .1)
+    ∙ goes-below (start .args .n) (start .args .d) (start .pre .0) (half (c .before)) (signs start (c .if2 .left))
 
 pub nearest-spec : {M : Type 1} → statement M
 nearest-spec =
