@@ -25,13 +25,13 @@ module _ (b q : ℕ) where
 
 module _ (a b : ℕ) (h : 0 < b) where
   -- b times it is from a half below a to a half above
+  half-le : 2 * (b * halfUp a b) ≤ 2 * a + b
+  half-le = omega (arith, mul-div-le (2 * a + b) (2 * b), mul-assoc 2 b (halfUp a b))
+
   half-lt : 2 * a + b < 2 * (b * halfUp a b) + 2 * b
   half-lt =
       let p : 0 < 2 * b = omega arith in
       omega (arith, lt-mul-div-succ (2 * a + b) p, mul-assoc 2 b (halfUp a b + 1), one-more b (halfUp a b))
-
-  half-le : 2 * (b * halfUp a b) ≤ 2 * a + b
-  half-le = rw (mul-assoc 2 b (halfUp a b)) at (mul-div-le (2 * a + b) (2 * b))
 
   -- the whole part, and the next number where the rest is a half or more
   pub rounds-down : 2 * (a % b) < b → halfUp a b ≡ a / b
