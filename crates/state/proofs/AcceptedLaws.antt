@@ -192,16 +192,16 @@ module _ (x : Songs) where
       is-true (all lengthLegal (x .table))
       (all-of lengthLegal unset (x .table) (λ n h. to-T (lengthLegal (songAt x n)) (length-legal (songAt x n) ∙ le-leb (songAt x n .len) 16 (f n h))))
 
-  pub playing-is : playingSet x ≡ true → x .playing ≡ true → 0 < songAt x (x .selected) .len
+  pub playing-is : playingSet x ≡ true → x .playing ≡ 1 → 0 < songAt x (x .selected) .len
   unfolding playingSet
-  playing-is e p = not-zero (songAt x (x .selected) .len) (not-true (eqb (songAt x (x .selected) .len) 0) (sym (simp p) ∙ e))
+  playing-is e p = not-zero (songAt x (x .selected) .len) (not-true (eqb (songAt x (x .selected) .len) 0) (sym (simp (eq-eqb (x .playing) 1 p)) ∙ e))
 
-  pub playing-of : (x .playing ≡ true → 0 < songAt x (x .selected) .len) → playingSet x ≡ true
+  pub playing-of : (x .playing ≡ 1 → 0 < songAt x (x .selected) .len) → playingSet x ≡ true
   unfolding playingSet
-  playing-of f = go (x .playing) refl
+  playing-of f = go (eqb (x .playing) 1) refl
     where
-      go : (b : Bool) → x .playing ≡ b → (not b || isSet (songAt x (x .selected))) ≡ true
-      go true e = simp (pos-eqb (songAt x (x .selected) .len) (f e))
+      go : (b : Bool) → eqb (x .playing) 1 ≡ b → (not b || isSet (songAt x (x .selected))) ≡ true
+      go true e = simp (pos-eqb (songAt x (x .selected) .len) (f (eqb-true (x .playing) 1 e)))
       go false e = refl
 
   pub notes-are : all notesZero (x .table) ≡ true → (n i : ℕ) → n < length (x .table) → 2 * songAt x n .len ≤ i → getD (songAt x n .notes) i 0 ≡ 0

@@ -245,7 +245,7 @@ module _ (s : State) (t : T (acceptedOf s)) where
     abbrev replaced : Songs
     replaced = withSong n song s .songs
 
-    still-set : 1 ≤ song .len → s .songs .playing ≡ true → 0 < songAt replaced (replaced .selected) .len
+    still-set : 1 ≤ song .len → s .songs .playing ≡ 1 → 0 < songAt replaced (replaced .selected) .len
     still-set h e = go (eqb i n) refl
       where
         i : ℕ
@@ -273,21 +273,22 @@ module _ (s : State) (t : T (acceptedOf s)) where
       (record {
         sixteen = ap (λ (i : ℕ). eqb i 16) (length-set (s .songs .table) n song) ∙ x .sixteen;
         selected = x .selected;
+        flag = x .flag;
         playing = playing-of (withSong n song s .songs) (still-set n song (leb-true 1 len (f .0)));
         each = is-true (all songOk (set (s .songs .table) n song))
             (all-set songOk (s .songs .table) n song (to-T (all songOk (s .songs .table)) (x .each)) (to-T (songOk song) (song-right song (is-true _ (d .array)) g (d .unused))));
       })
 
   pub play-kept : (n : ℕ) (q : List ℕ) → T (legalOf (message (cmd.Play n) q)) → T (isSet (songAt (s .songs) n))
-      → T (acceptedOf (withPlaying true (withSelected n s)))
+      → T (acceptedOf (withPlaying 1 (withSelected n s)))
   unfolding selectedLegal playingSet
   play-kept n q u v =
-      songs-of (withPlaying true (withSelected n s) .songs)
-      (record { sixteen = x .sixteen; selected = unused-free (cmd.Play n) (replicate 32 0) q refl ∙ is-true _ u; playing = is-true _ v; each = x .each })
+      songs-of (withPlaying 1 (withSelected n s) .songs)
+      (record { sixteen = x .sixteen; selected = unused-free (cmd.Play n) (replicate 32 0) q refl ∙ is-true _ u; flag = refl; playing = is-true _ v; each = x .each })
 
-  pub silent-kept : T (acceptedOf (withPlaying false s))
+  pub silent-kept : T (acceptedOf (withPlaying 0 s))
   unfolding selectedLegal playingSet
-  silent-kept = songs-of (withPlaying false s .songs) (record { sixteen = x .sixteen; selected = x .selected; playing = refl; each = x .each })
+  silent-kept = songs-of (withPlaying 0 s .songs) (record { sixteen = x .sixteen; selected = x .selected; flag = refl; playing = refl; each = x .each })
 
   -- ---- the stream list
 
@@ -307,13 +308,15 @@ module _ (s : State) (t : T (acceptedOf s)) where
       (to-T (streamOk (withList n ids s .stream))
       (stream-right (withList n ids s .stream)
       (record {
-        first = is-true _ (yes-and (eqb (length ids) 16) (allBytes ids) (yes-eqb sixteen) (all-take isByte 16 q (a .1)));
-        second = unused-free (cmd.Stream n) ids q (take-take (storedCount n) 16 q (stored-le n)) ∙ d .legal;
-        third = is-true _ (zeros-later ids n zero);
+        typed = is-true _ (yes-and (eqb (length ids) 16) (allBytes ids) (yes-eqb sixteen) (all-take isByte 16 q (a .1)));
+        flag = l .flag;
+        list = unused-free (cmd.Stream n) ids q (take-take (storedCount n) 16 q (stored-le n)) ∙ d .legal;
+        unused = is-true _ (zeros-later ids n zero);
       })))
 
-  pub streaming-kept : (b : Bool) → T (acceptedOf (withStreaming b s))
-  unfolding streamTyped streamLegal idsZero
-  streaming-kept b =
-      let n = withStreaming b s .stream in
-      stream-kept n (to-T (streamOk n) (stream-right n (record { first = l .first; second = l .second; third = l .third })))
+  pub streaming-kept : (n : ℕ) (q : List ℕ) → T (legalOf (message (cmd.Pause n) q)) → T (acceptedOf (withStreaming n s))
+  unfolding rowOf legalOf streamTyped streamLegal idsZero
+  streaming-kept n q u =
+      let y = withStreaming n s .stream in
+      let f = byte-legal 1 n ∙ unused-free (cmd.Pause n) (replicate 32 0) q refl ∙ is-true (legalOf (message (cmd.Pause n) q)) u in
+      stream-kept y (to-T (streamOk y) (stream-right y (record { typed = l .typed; flag = f; list = l .list; unused = l .unused })))

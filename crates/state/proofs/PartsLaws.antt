@@ -4,14 +4,14 @@ use mathlib.Core.Path.{_≡_, sym, ap, _∙_}
 use mathlib.Core.Bool.{Bool, true, _&&_}
 use mathlib.Core.List.{List}
 use Prim.Native.Nat.{ℕ}
-use lib.Dec.{T, eqb, ltb, ltb→lt}
+use lib.Dec.{T, leb, eqb, ltb, ltb→lt}
 use lib.ListN.{length, getD}
 use mir.Facts.{and-yes}
 use Rattle.wire.specs.Lists.{all}
 use Rattle.wire.proofs.BoolLaws.{is-true, to-T, both, same-truth}
 use Rattle.wire.proofs.ListsLaws.{all-at, all-and}
 use Rattle.frame.specs.Reach.{reachableOf}
-use Rattle.state.specs.Accepted.{modeNamed, orderNamed, offUnlessDriven, wheelsLegal, dutiesLegal, outputsLegal, baudLegal, selectedLegal, streamLegal, lengthLegal, playingSet, notesZero, idsZero, items, motorsTyped, keptTyped, songTyped, songsTyped, streamTyped, typed, acceptedOf, motorsOk, keptOk, songOk, songsOk, streamOk, partsOk}
+use Rattle.state.specs.Accepted.{modeNamed, orderNamed, offUnlessDriven, wheelsLegal, dutiesLegal, outputsLegal, baudLegal, selectedLegal, streamLegal, lengthLegal, playingSet, notesZero, idsZero, isFlag, items, motorsTyped, keptTyped, songTyped, songsTyped, streamTyped, typed, acceptedOf, motorsOk, keptOk, songOk, songsOk, streamOk, partsOk}
 use Rattle.state.specs.declared.Motors.{Motors}
 use Rattle.state.specs.declared.Kept.{Kept}
 use Rattle.state.specs.declared.Song.{Song}
@@ -44,7 +44,7 @@ module _ (mode : ℕ) (m : Motors) where
   unfolding motorsOk
   motors-right r = simp (r .typed, r .mode-named, r .order-named, r .off, r .wheels, r .duties)
 
--- ---- what is kept, and the stream list: three tests each
+-- ---- what is kept: three tests
 
 pub record Three (a b c : Bool) : Type 0 where
   pub first : a ≡ true
@@ -71,22 +71,32 @@ pub kept-right : (k : Kept) → KeptRight k → keptOk k ≡ true
 unfolding keptOk
 kept-right k r = three-right r
 
-abbrev pub StreamRight : Stream → Type 0
-StreamRight x = Three (streamTyped x) (streamLegal x) (idsZero x)
+-- ---- the stream list
+
+pub record StreamRight (x : Stream) : Type 0 where
+  pub typed : streamTyped x ≡ true
+  pub flag : isFlag (x .on) ≡ true
+  pub list : streamLegal x ≡ true
+  pub unused : idsZero x ≡ true
 
 pub stream-facts : (x : Stream) → streamOk x ≡ true → StreamRight x
 unfolding streamOk
-stream-facts x = three-facts (streamTyped x) (streamLegal x) (idsZero x)
+stream-facts x e =
+    let a = both (streamTyped x) (isFlag (x .on) && (streamLegal x && idsZero x)) e in
+    let b = both (isFlag (x .on)) (streamLegal x && idsZero x) (a .1) in
+    let c = both (streamLegal x) (idsZero x) (b .1) in
+    record { typed = a .0; flag = b .0; list = c .0; unused = c .1 }
 
 pub stream-right : (x : Stream) → StreamRight x → streamOk x ≡ true
 unfolding streamOk
-stream-right x r = three-right r
+stream-right x r = simp (r .typed, r .flag, r .list, r .unused)
 
 -- ---- the songs
 
 pub record SongsRight (x : Songs) : Type 0 where
   pub sixteen : eqb (length (x .table)) 16 ≡ true
   pub selected : selectedLegal x ≡ true
+  pub flag : isFlag (x .playing) ≡ true
   pub playing : playingSet x ≡ true
   pub each : all songOk (x .table) ≡ true
 
@@ -94,14 +104,15 @@ module _ (x : Songs) where
   pub songs-facts : songsOk x ≡ true → SongsRight x
   unfolding songsOk
   songs-facts e =
-      let a = both (eqb (length (x .table)) 16) (selectedLegal x && (playingSet x && all songOk (x .table))) e in
-      let b = both (selectedLegal x) (playingSet x && all songOk (x .table)) (a .1) in
-      let c = both (playingSet x) (all songOk (x .table)) (b .1) in
-      record { sixteen = a .0; selected = b .0; playing = c .0; each = c .1 }
+      let a = both (eqb (length (x .table)) 16) (selectedLegal x && (isFlag (x .playing) && (playingSet x && all songOk (x .table)))) e in
+      let b = both (selectedLegal x) (isFlag (x .playing) && (playingSet x && all songOk (x .table))) (a .1) in
+      let c = both (isFlag (x .playing)) (playingSet x && all songOk (x .table)) (b .1) in
+      let d = both (playingSet x) (all songOk (x .table)) (c .1) in
+      record { sixteen = a .0; selected = b .0; flag = c .0; playing = d .0; each = d .1 }
 
   pub songs-right : SongsRight x → songsOk x ≡ true
   unfolding songsOk
-  songs-right r = simp (r .sixteen, r .selected, r .playing, r .each)
+  songs-right r = simp (r .sixteen, r .selected, r .flag, r .playing, r .each)
 
 -- one test of each song, and three tests of all
 each-song : (l : List Song) → all songOk l ≡ (all songTyped l && (all lengthLegal l && all notesZero l))
@@ -126,11 +137,11 @@ pub record TypedRight (s : State) : Type 0 where
 
 module _ (s : State) where
   -- an item by its number
-  pub item-of : T (acceptedOf s) → (k : ℕ) → T (ltb k 14) → getD (items s) k true ≡ true
+  pub item-of : T (acceptedOf s) → (k : ℕ) → T (ltb k 16) → getD (items s) k true ≡ true
   unfolding acceptedOf
   item-of t k h =
       let a = and-yes (typed s) (all (λ b. b) (items s)) t in
-      is-true (getD (items s) k true) (all-at (λ b. b) true (items s) k (ltb→lt k 14 h) (a .1))
+      is-true (getD (items s) k true) (all-at (λ b. b) true (items s) k (ltb→lt k 16 h) (a .1))
 
   -- what is true of every value of the type
   pub typed-of : T (typed s) → TypedRight s
@@ -154,8 +165,8 @@ module _ (s : State) where
       record {
         motors = simp (r .motors, i 0 tt, i 1 tt, i 2 tt, i 3 tt, i 4 tt);
         kept = simp (r .kept, i 5 tt, i 6 tt);
-        songs = simp (r .sixteen, i 7 tt, i 10 tt, each-song (s .songs .table), r .songs, i 9 tt, i 11 tt);
-        stream = simp (r .stream, i 8 tt, i 12 tt);
+        songs = simp (r .sixteen, i 7 tt, i 14 tt, i 10 tt, each-song (s .songs .table), r .songs, i 9 tt, i 11 tt);
+        stream = simp (r .stream, i 15 tt, i 8 tt, i 12 tt);
         partial = i 13 tt;
       }
 
@@ -175,7 +186,7 @@ module _ (s : State) where
         k .first,
         x .sixteen,
         e .0,
-        st .first,
+        st .typed,
         m .mode-named,
         m .order-named,
         m .off,
@@ -184,12 +195,14 @@ module _ (s : State) where
         k .second,
         k .third,
         x .selected,
-        st .second,
+        st .list,
         f .0,
         x .playing,
         f .1,
-        st .third,
+        st .unused,
         p .partial,
+        x .flag,
+        st .flag,
       ))
 
   -- as the code tests it

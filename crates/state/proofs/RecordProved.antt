@@ -158,6 +158,8 @@ plain-of s t =
       notes-zero = λ k j h. accepted.notes-are (s .songs) (i 11 tt) k j (omega arith);
       ids-zero = accepted.ids-are (s .stream) (i 12 tt);
       partial-is = i 13 tt;
+      playing-flag = leb-true (s .songs .playing) 1 (i 14 tt);
+      streaming-flag = leb-true (s .stream .on) 1 (i 15 tt);
     }
 
 accepted-of : (s : State) → T (typed s) → Plain s → T (acceptedOf s)
@@ -186,6 +188,8 @@ accepted-of s t p =
       accepted.notes-of (s .songs) (λ k j h. p .notes-zero k j (omega arith)),
       accepted.ids-of (s .stream) (p .ids-zero),
       p .partial-is,
+      le-leb (s .songs .playing) 1 (p .playing-flag),
+      le-leb (s .stream .on) 1 (p .streaming-flag),
     ))
 
 pub accepted-exactly : AcceptedExactly

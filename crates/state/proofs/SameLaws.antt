@@ -1,7 +1,7 @@
 -- Laws of the test of two records: it passes where they are equal, and nowhere else.
 -- Assumes nothing.
 use mathlib.Core.Path.{_≡_, refl, sym, ap, ap₂, subst, _∙_}
-use mathlib.Core.Bool.{Bool, true, false, _&&_, Bool·beq}
+use mathlib.Core.Bool.{Bool, true, false, _&&_}
 use mathlib.Core.List.{List, [], _∷_}
 use Prim.Native.Nat.{ℕ, _+_, _<_}
 use native.Mathlib.Numerals.{add-one}
@@ -15,7 +15,7 @@ use mir.ValLaws.{toZ-ofZ}
 use mir.Facts.{and-yes, yes-eqb}
 use borrow.Author.Tests.{eq-eqb}
 use Rattle.wire.specs.Lists.{sameList}
-use Rattle.wire.proofs.BoolLaws.{to-T, beq-eq, same-truth}
+use Rattle.wire.proofs.BoolLaws.{to-T, same-truth}
 use Rattle.wire.proofs.ListsLaws.{same-list}
 use Rattle.frame.specs.declared.Partial.{Partial}
 use Rattle.state.specs.declared.Motors.{Motors}
@@ -78,14 +78,14 @@ same-songs a b t =
     rw (
       same-table (a .table) (b .table) (x .0),
       eqb→eq (a .selected) (b .selected) (y .0),
-      beq-eq (a .playing) (b .playing) (y .1),
+      eqb→eq (a .playing) (b .playing) (y .1),
     )
 
 same-stream : (a b : Stream) → T (sameStream a b) → a ≡ b
 same-stream a b t =
     let x = and-yes (sameList (a .ids) (b .ids)) _ t in
     let y = and-yes (eqb (a .count) (b .count)) _ (x .1) in
-    rw (same-list (a .ids) (b .ids) (x .0), eqb→eq (a .count) (b .count) (y .0), beq-eq (a .on) (b .on) (y .1))
+    rw (same-list (a .ids) (b .ids) (x .0), eqb→eq (a .count) (b .count) (y .0), eqb→eq (a .on) (b .on) (y .1))
 
 same-partial : (a b : Partial) → T (samePartial a b) → a ≡ b
 same-partial a b t =
@@ -125,10 +125,6 @@ number-self (negsuc a) = self a
 equal-number : (a b : ℤ) → a ≡ b → T (sameNumber a b)
 equal-number a b e = subst (λ (x : ℤ). T (sameNumber a x)) e (to-T (sameNumber a a) (number-self a))
 
-flag-self : (a : Bool) → Bool·beq a a ≡ true
-flag-self true = refl
-flag-self false = refl
-
 list-self : (l : List ℕ) → sameList l l ≡ true
 list-self [] = refl
 list-self (x ∷ xs) = simp (self x, list-self xs)
@@ -138,7 +134,7 @@ table-self [] = refl
 table-self (x ∷ xs) = simp (self (x .len), list-self (x .notes), table-self xs)
 
 state-self : (a : State) → sameState a a ≡ true
-state-self a = simp (self, number-self, flag-self, list-self, table-self)
+state-self a = simp (self, number-self, list-self, table-self)
 
 equal-same : (a b : State) → a ≡ b → T (sameState a b)
 equal-same a b e = subst (λ (x : State). T (sameState a x)) e (to-T (sameState a a) (state-self a))

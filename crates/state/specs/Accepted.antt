@@ -3,7 +3,7 @@
 use mathlib.Core.Bool.{Bool, true, not, cond, _&&_, _||_}
 use mathlib.Core.List.{List, [], _∷_}
 use Prim.Native.Nat.{ℕ, _*_}
-use lib.Dec.{eqb}
+use lib.Dec.{leb, eqb}
 use lib.IntN.{ℤ, pos}
 use lib.ListN.{length, getD, drop, replicate}
 use Rattle.wire.specs.Lists.{all, among, isZero, isByte, allZero, byteArray}
@@ -13,7 +13,7 @@ use Rattle.command.specs.CommandTable.{isIn, _to_, legalOf}
 use Rattle.command.specs.Commands.{message}
 use Rattle.command.specs.declared.Command.{Command}
 use Rattle.command.specs.declared.Command.the-variants as cmd
-use Rattle.state.specs.State.{off, passive, safe, full, noOrder, drive, direct, motorsOff, songAt}
+use Rattle.state.specs.State.{off, passive, safe, full, noOrder, drive, direct, isYes, motorsOff, songAt}
 use Rattle.state.specs.declared.Motors.{Motors}
 use Rattle.state.specs.declared.Kept.{Kept}
 use Rattle.state.specs.declared.Song.{Song}
@@ -76,7 +76,7 @@ isSet song = not (isZero (song .len))
 
 -- 'playing with the selected song not set'
 unfoldable pub playingSet : Songs → Bool
-playingSet x = not (x .playing) || isSet (songAt x (x .selected))
+playingSet x = not (isYes (x .playing)) || isSet (songAt x (x .selected))
 
 -- 'a place not in use (in a song, ..) that isn't 0': a note is two bytes
 unfoldable pub notesZero : Song → Bool
@@ -86,7 +86,11 @@ notesZero song = allZero (drop (2 * song .len) (song .notes))
 unfoldable pub idsZero : Stream → Bool
 idsZero x = allZero (drop (x .count) (x .ids))
 
--- all of them; the last: 'a held frame that the frame table can't leave, its owed number included'
+-- a flag, playing or streaming, is 0 or 1
+abbrev pub isFlag : ℕ → Bool
+isFlag n = leb n 1
+
+-- all of them; after the list's last, 'a held frame that the frame table can't leave, its owed number included', the two flags
 abbrev pub items : State → List Bool
 items s =
     modeNamed (s .mode)
@@ -103,6 +107,8 @@ items s =
     ∷ all notesZero (s .songs .table)
     ∷ idsZero (s .stream)
     ∷ reachableOf (s .partial)
+    ∷ isFlag (s .songs .playing)
+    ∷ isFlag (s .stream .on)
     ∷ []
 
 -- ---- what is true of every value of the type, and bounds what no item does: each array has its length, bytes are bytes, i16s are i16s. The held
@@ -148,10 +154,10 @@ unfoldable pub songOk : Song → Bool
 songOk song = songTyped song && (lengthLegal song && notesZero song)
 
 unfoldable pub songsOk : Songs → Bool
-songsOk x = eqb (length (x .table)) 16 && (selectedLegal x && (playingSet x && all songOk (x .table)))
+songsOk x = eqb (length (x .table)) 16 && (selectedLegal x && (isFlag (x .playing) && (playingSet x && all songOk (x .table))))
 
 unfoldable pub streamOk : Stream → Bool
-streamOk x = streamTyped x && (streamLegal x && idsZero x)
+streamOk x = streamTyped x && (isFlag (x .on) && (streamLegal x && idsZero x))
 
 -- every part; the partial frame's test is frame's own
 abbrev pub partsOk : State → Bool

@@ -31,8 +31,8 @@ moving =
       mode = 3;
       motors = record { order = 1; first = pos 200; second = pos 500; duties = 128 ∷ 0 ∷ 64 ∷ [] };
       kept = record { baud = 7; leds = 255 ∷ 0 ∷ 128 ∷ []; outputs = 5; ir = 255 };
-      songs = record { table = shortSong ∷ (replicate 14 unset ++ (song 16 (span 1 32) ∷ [])); selected = 0; playing = true };
-      stream = record { ids = padded 16 (29 ∷ 13 ∷ []); count = 2; on = true };
+      songs = record { table = shortSong ∷ (replicate 14 unset ++ (song 16 (span 1 32) ∷ [])); selected = 0; playing = 1 };
+      stream = record { ids = padded 16 (29 ∷ 13 ∷ []); count = 2; on = 1 };
       partial = stored (137 ∷ 0 ∷ []) 3;
     }
 
@@ -62,7 +62,7 @@ directing right left = withWheels 2 right left moving
 
 -- this song selected, and none playing
 abbrev selecting : ℕ → State
-selecting n = withSelected n (withPlaying false moving)
+selecting n = withSelected n (withPlaying 0 moving)
 
 -- these ids, each in use
 abbrev listing : List ℕ → State
@@ -167,6 +167,9 @@ recordCases =
     ∷ case (holding (152 ∷ 5 ∷ 1 ∷ []) 4) (holding (152 ∷ 5 ∷ []) 4)
     ∷ case (holding (149 ∷ 17 ∷ 7 ∷ []) 16) (holding (149 ∷ 17 ∷ []) 16)
     ∷ [])
+    -- a flag that is neither 0 nor 1: playing, with the selected song set and not; streaming
+    ∷ (ends (λ n. withPlaying n moving) 2 1 ∷ ends (λ n. withSelected 1 (withPlaying n moving)) 3 0 ∷ ends (λ n. withPlaying n moving) 255 0 ∷ [])
+    ∷ (ends (λ n. withStreaming n moving) 2 1 ∷ ends (λ n. withStreaming n moving) 255 0 ∷ [])
     ∷ []
 
 -- the numbers of the items that fail, counted from k
@@ -196,7 +199,7 @@ oddRecords =
     -- a selected song that is not set, while none plays
     ∷ selecting 1
     -- streaming an empty list
-    ∷ withStreaming true powerOn
+    ∷ withStreaming 1 powerOn
     -- numbers of no order
     ∷ withMode 1 (withWheels 0 (minus 32768) (pos 32767) powerOn)
     ∷ withMode 0 (withWheels 0 (pos 501) (pos 0) powerOn)

@@ -1,7 +1,7 @@
 -- What the state record guarantees: the theorems of this crate.
 -- Assumes nothing.
 use mathlib.Core.Path.{_≡_}
-use mathlib.Core.Bool.{Bool, true, false, _&&_}
+use mathlib.Core.Bool.{true, false, _&&_}
 use mathlib.Core.List.{List, [], _∷_}
 use Prim.Native.Nat.{ℕ, _*_, _≤_, _<_}
 use lib.Dec.{T, ltb}
@@ -95,9 +95,9 @@ pub record PowerOnRight : Type 0 where
   pub wheels-0 : wheelsOf (powerOn .motors) ≡ (0, (pos 0, pos 0))
   pub no-songs : (n : ℕ) → isSet (songAt (powerOn .songs) n) ≡ false
   pub selected-0 : powerOn .songs .selected ≡ 0
-  pub not-playing : powerOn .songs .playing ≡ false
+  pub not-playing : powerOn .songs .playing ≡ 0
   pub empty-list : powerOn .stream .count ≡ 0
-  pub streaming-off : powerOn .stream .on ≡ false
+  pub streaming-off : powerOn .stream .on ≡ 0
   pub baud-10 : powerOn .kept .baud ≡ 10
   pub leds-0 : powerOn .kept .leds ≡ 0 ∷ 0 ∷ 0 ∷ []
   pub outputs-0 : powerOn .kept .outputs ≡ 0
@@ -146,10 +146,12 @@ pub record Plain (s : State) : Type 0 where
   pub count-is : s .stream .count ≤ 16
   pub list-is : streamableOf (take (s .stream .count) (s .stream .ids)) ≡ true
   pub lengths-are : (n : ℕ) → n < 16 → getD (s .songs .table) n unset .len ≤ 16
-  pub playing-set : s .songs .playing ≡ true → 0 < getD (s .songs .table) (s .songs .selected) unset .len
+  pub playing-set : s .songs .playing ≡ 1 → 0 < getD (s .songs .table) (s .songs .selected) unset .len
   pub notes-zero : (n i : ℕ) → n < 16 → 2 * getD (s .songs .table) n unset .len ≤ i → getD (getD (s .songs .table) n unset .notes) i 0 ≡ 0
   pub ids-zero : (i : ℕ) → s .stream .count ≤ i → getD (s .stream .ids) i 0 ≡ 0
   pub partial-is : reachableOf (s .partial) ≡ true
+  pub playing-flag : s .songs .playing ≤ 1
+  pub streaming-flag : s .stream .on ≤ 1
 
 -- the list is a value of [u8; n]
 abbrev pub Array : ℕ → List ℕ → Type 0
@@ -201,11 +203,11 @@ pub record StaysAccepted (s : State) : Type 0 where
   pub song-kept : (n len : ℕ) (p : List ℕ) → Sendable (message (cmd.Song n len) p)
       → T (acceptedOf (withSong n (record { len = len; notes = p }) s))
   pub play-kept : (n : ℕ) (p : List ℕ) → T (legalOf (message (cmd.Play n) p)) → T (isSet (songAt (s .songs) n))
-      → T (acceptedOf (withPlaying true (withSelected n s)))
-  pub silent-kept : T (acceptedOf (withPlaying false s))
+      → T (acceptedOf (withPlaying 1 (withSelected n s)))
+  pub silent-kept : T (acceptedOf (withPlaying 0 s))
   -- a list as it is read
   pub list-kept : (n : ℕ) (p : List ℕ) → Sendable (message (cmd.Stream n) p) → T (acceptedOf (withList n (take 16 p) s))
-  pub streaming-kept : (b : Bool) → T (acceptedOf (withStreaming b s))
+  pub streaming-kept : (n : ℕ) (p : List ℕ) → T (legalOf (message (cmd.Pause n) p)) → T (acceptedOf (withStreaming n s))
 
 -- THEOREM: it holds of every accepted record
 abbrev pub AcceptedStays : Type 0

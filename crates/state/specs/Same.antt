@@ -1,7 +1,7 @@
 -- Whether two records are the same: what `same` gives back, and the test of the tables of cases.
 -- Assumes nothing.
 use mathlib.Core.Path.{_≡_}
-use mathlib.Core.Bool.{Bool, true, false, Bool·beq, _&&_}
+use mathlib.Core.Bool.{Bool, true, false, _&&_}
 use mathlib.Core.List.{List, [], _∷_}
 use lib.Dec.{T, eqb}
 use lib.IntN.{ℤ, pos, negsuc}
@@ -37,10 +37,10 @@ sameTable (x ∷ xs) [] = false
 sameTable (x ∷ xs) (y ∷ ys) = sameSong x y && sameTable xs ys
 
 abbrev pub sameSongs : Songs → Songs → Bool
-sameSongs a b = sameTable (a .table) (b .table) && (eqb (a .selected) (b .selected) && Bool·beq (a .playing) (b .playing))
+sameSongs a b = sameTable (a .table) (b .table) && (eqb (a .selected) (b .selected) && eqb (a .playing) (b .playing))
 
 abbrev pub sameStream : Stream → Stream → Bool
-sameStream a b = sameList (a .ids) (b .ids) && (eqb (a .count) (b .count) && Bool·beq (a .on) (b .on))
+sameStream a b = sameList (a .ids) (b .ids) && (eqb (a .count) (b .count) && eqb (a .on) (b .on))
 
 abbrev pub samePartial : Partial → Partial → Bool
 samePartial a b = sameList (a .bytes) (b .bytes) && (eqb (a .count) (b .count) && eqb (a .remaining) (b .remaining))

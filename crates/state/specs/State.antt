@@ -1,6 +1,6 @@
 -- The state record: power-on, and the setters, which alone change it (document 01, 'Commands at their last byte').
 -- Assumes nothing.
-use mathlib.Core.Bool.{Bool, false, _&&_}
+use mathlib.Core.Bool.{Bool, _&&_}
 use mathlib.Core.List.{List, [], _∷_}
 use Prim.Native.Nat.{ℕ}
 use lib.Dec.{eqb}
@@ -39,6 +39,12 @@ drive = 1
 abbrev pub direct : ℕ
 direct = 2
 
+-- ---- flags
+
+-- a flag is a number, 0 no and 1 yes: lent from another language, its byte can be any
+abbrev pub isYes : ℕ → Bool
+isYes flag = eqb flag 1
+
 -- ---- motors off
 
 -- both wheels without an order, and all three duties 0
@@ -68,8 +74,8 @@ powerOn =
       mode = off;
       motors = motorsStopped;
       kept = record { baud = 10; leds = 0 ∷ 0 ∷ 0 ∷ []; outputs = 0; ir = 0 };
-      songs = record { table = replicate 16 unset; selected = 0; playing = false };
-      stream = record { ids = replicate 16 0; count = 0; on = false };
+      songs = record { table = replicate 16 unset; selected = 0; playing = 0 };
+      stream = record { ids = replicate 16 0; count = 0; on = 0 };
       partial = emptyPartial;
     }
 
@@ -136,16 +142,16 @@ abbrev pub withSelected : ℕ → State → State
 withSelected n s = withSongs (record { table = s .songs .table; selected = n; playing = s .songs .playing }) s
 
 -- 141: playing; a song end clears it
-abbrev pub withPlaying : Bool → State → State
-withPlaying b s = withSongs (record { table = s .songs .table; selected = s .songs .selected; playing = b }) s
+abbrev pub withPlaying : ℕ → State → State
+withPlaying n s = withSongs (record { table = s .songs .table; selected = s .songs .selected; playing = n }) s
 
 -- 148: list replaced: 16 places, of which the first n are in use
 abbrev pub withList : ℕ → List ℕ → State → State
 withList n ids s = withStream (record { ids = ids; count = n; on = s .stream .on }) s
 
 -- 148 and 150: streaming off or on
-abbrev pub withStreaming : Bool → State → State
-withStreaming b s = withStream (record { ids = s .stream .ids; count = s .stream .count; on = b }) s
+abbrev pub withStreaming : ℕ → State → State
+withStreaming n s = withStream (record { ids = s .stream .ids; count = s .stream .count; on = n }) s
 
 -- ---- stop
 

@@ -34,6 +34,11 @@ pub const DRIVE: u8 = 1;
 
 pub const DIRECT: u8 = 2;
 
+// A flag of the record. It is a number and no bool, so that any byte that is lent is one; another than these two is a bad record.
+pub const NO: u8 = 0;
+
+pub const YES: u8 = 1;
+
 // A wheel order: its kind, and velocity and radius of a Drive, or right and left of a Direct. Of no order the two numbers may be anything.
 // Driver i's duty is duties[i].
 #[repr(C)]
@@ -64,7 +69,7 @@ pub struct Song {
 pub struct Songs {
     pub table: [Song; 16],
     pub selected: u8,
-    pub playing: bool,
+    pub playing: u8,
 }
 
 // The stream list: its ids, in the first places, and their number.
@@ -72,10 +77,10 @@ pub struct Songs {
 pub struct Stream {
     pub ids: [u8; 16],
     pub count: u8,
-    pub on: bool,
+    pub on: u8,
 }
 
-// It holds no enum: mode and kind of wheel order are numbers, so that a bad one can be handed in.
+// It holds no enum and no bool: any bytes that are lent are a record, good or bad.
 #[repr(C)]
 pub struct State {
     pub mode: u8,
@@ -113,12 +118,12 @@ pub fn power_on() -> State
         songs: Songs {
             table,
             selected: 0,
-            playing: false,
+            playing: NO,
         },
         stream: Stream {
             ids: [0u8; 16],
             count: 0,
-            on: false,
+            on: NO,
         },
         partial,
     }
@@ -223,7 +228,10 @@ fn songs_ok(songs: Songs) -> bool
     if selected > command::LAST_SONG {
         return false;
     }
-    if songs.playing && table[selected as usize].len == 0 {
+    if songs.playing > YES {
+        return false;
+    }
+    if songs.playing == YES && table[selected as usize].len == 0 {
         return false;
     }
     let mask = mask();
@@ -245,6 +253,9 @@ fn stream_ok(stream: Stream) -> bool
     let ids = stream.ids;
     let count = stream.count;
     let n = count as usize;
+    if stream.on > YES {
+        return false;
+    }
     count <= frame::LEGAL_COUNT && (packet::streamable(&ids[0..n]) && wire::clear_from(&ids, n))
 }
 

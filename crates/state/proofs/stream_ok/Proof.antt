@@ -29,57 +29,63 @@ typed c =
     let each : (i : ℕ) → getD l i 0 < 256 = λ i. (let h : Fits w8 (getD l i 0) = search needs in omega arith) in
     array-true 16 l (sixteen c) each
 
--- what the code tests
-tested : (c : tie.Start)
-    → let x = c .args .stream in
+returns : tie.Need-returns
+unfolding streamOk
+returns c = simp (typed (c .before .before .before), lt-leb _ _ (c .if1 .taken))
+
+-- what the code tests, once the flag is one
+tested : (c : tie.Else1)
+    → let x = c .before .before .before .args .stream in
     (leb (x .count) 16 && (streamableOf (take (x .count) (x .ids)) && idsZero x)) ≡ streamOk x
 unfolding streamOk
 tested c =
-    let x = c .args .stream in
-    sym (and-assoc (leb (x .count) 16) (streamableOf (take (x .count) (x .ids))) (idsZero x)) ∙ sym (simp (typed c, list-tested x))
+    let x = c .before .before .before .args .stream in
+    sym (and-assoc (leb (x .count) 16) (streamableOf (take (x .count) (x .ids))) (idsZero x))
+    ∙ sym (simp (typed (c .before .before .before), le-leb (x .on) 1 (c .if1 .left), list-tested x))
 
 part-streamable-end : tie.Need-part-streamable-end
 part-streamable-end c =
-    let start = c .before .before .before in
-    let h : start .args .stream .count ≤ length (start .args .stream .ids) = omega (arith, sixteen start, c .before .if1 .taken) in
+    let start = c .before .before .before .before .before in
+    let h : start .args .stream .count ≤ length (start .args .stream .ids) = omega (arith, sixteen start, c .before .if2 .taken) in
     h
 
 -- what is lent is the ids in use
 in-use : (c : tie.After-streamable)
-    → let x = c .before .before .before .before .before .args .stream in
+    → let x = c .before .before .before .before .before .before .before .args .stream in
     c .streamable .result ≡ streamableOf (take (x .count) (x .ids))
 in-use c =
-    let x = c .before .before .before .before .before .args .stream in
+    let x = c .before .before .before .before .before .before .before .args .stream in
     c .streamable .ensures ∙ ap (λ (n : ℕ). streamableOf (take n (x .ids))) (sub-zero (x .count))
 
-returns : tie.Need-returns
+returns-2 : tie.Need-returns-2
 unfolding idsZero
-returns c =
+returns-2 c =
     let ruled = c .before .before .before in
     let counted = ruled .before .before .before in
     c .clear-from .ensures
-    ∙ third-of-three _ (le-leb _ _ (counted .if1 .taken)) (sym (in-use ruled) ∙ c .before .before .if2 .taken) ∙ tested (counted .before .before)
-
-returns-2 : tie.Need-returns-2
-returns-2 c =
-    let ruled = c .before in
-    let counted = ruled .before .before .before in
-    in-use ruled ∙ second-of-three _ (le-leb _ _ (counted .if1 .taken)) (sym (in-use ruled) ∙ c .if2 .left) ∙ tested (counted .before .before)
+    ∙ third-of-three _ (le-leb _ _ (counted .if2 .taken)) (sym (in-use ruled) ∙ c .before .before .if3 .taken) ∙ tested (counted .before)
 
 returns-3 : tie.Need-returns-3
-returns-3 c = first-decides _ (lt-leb _ _ (c .if1 .left)) ∙ tested (c .before .before)
+returns-3 c =
+    let ruled = c .before in
+    let counted = ruled .before .before .before in
+    in-use ruled ∙ second-of-three _ (le-leb _ _ (counted .if2 .taken)) (sym (in-use ruled) ∙ c .if3 .left) ∙ tested (counted .before)
+
+returns-4 : tie.Need-returns-4
+returns-4 c = first-decides _ (lt-leb _ _ (c .if2 .left)) ∙ tested (c .before)
 
 pub stream-ok-spec : {M : Type 1} → statement M
 stream-ok-spec =
     tie.close
     (tie.spec
     (λ c. search needs)
+    returns
     (λ c. search needs)
     (λ c. search needs)
     part-streamable-end
     (λ c κs. search needs)
     (λ c. search needs)
     (λ c κs. search needs)
-    returns
     returns-2
-    returns-3)
+    returns-3
+    returns-4)
