@@ -49,7 +49,6 @@ demand-2 =
       counts-slice = refl;
       counts-less = refl;
       named-cases = tt;
-      further = tt;
       rules = rules-right;
       records-same = same-exactly;
       write-then-read = read-back;

@@ -24,7 +24,7 @@ use Rattle.board.specs.Judge.{judgeOf}
 use Rattle.board.specs.Calls.{byteOf, performed, runOf, Call, byte, perform, after, numbers}
 use Rattle.board.specs.Rules.{RulesRight}
 use Rattle.board.specs.EffectTable.{effectTable, rowRight}
-use Rattle.board.specs.Shown.{shownCases, furtherCases, boardPasses, refusesAll, staysPassive, alwaysZero, doesNothing, firstByteOnly, countsSlice, countsLess, rejections, rejects}
+use Rattle.board.specs.Shown.{shownCases, boardPasses, refusesAll, staysPassive, alwaysZero, doesNothing, firstByteOnly, countsSlice, countsLess, rejections, rejects}
 
 -- a call for each byte, with the same image and buffer
 abbrev pub oneByOne : List ℕ → List ℕ → List ℕ → List Call
@@ -72,8 +72,6 @@ pub record Demand2 : Type 0 where
   pub counts-less : boardPasses countsLess shownCases ≡ false
   -- each by one case, which document 01 names for all but the counts
   pub named-cases : T (all rejects rejections)
-  -- further cases, which no paper marks
-  pub further : T (boardPasses perform furtherCases)
   -- and for every record and every value
   pub rules : RulesRight
   -- in both tables the records compared are equal

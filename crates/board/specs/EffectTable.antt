@@ -63,7 +63,7 @@ abbrev row : List ℕ → List Entry → EffectRow
 row modes es = record { modes = modes; entries = es }
 
 -- a song of n notes
-abbrev pub song : ℕ → List ℕ → Song
+abbrev song : ℕ → List ℕ → Song
 song n notes = record { len = n; notes = padded 32 notes }
 
 -- document 01's rows, in its order; 136 has the row that document 02's request One gives it. Modes are 0 Off, 1 Passive, 2 Safe, 3 Full; the image's
@@ -157,7 +157,7 @@ effectTable =
 -- ---- the test
 
 -- both wheels to no order and all three duties to 0
-abbrev pub stopped : State → State
+abbrev stopped : State → State
 stopped s = withDuties (0 ∷ 0 ∷ 0 ∷ []) (withWheels 0 (pos 0) (pos 0) s)
 
 -- a record of each mode with a value in every part: in Safe and Full the motors run, songs 0 and 15 are set and none plays, song 3 is selected, the list
