@@ -25,6 +25,8 @@ pub enum Item {
     StreamId,
     StreamSizes,
     SongLength,
+    PlayingFlag,
+    StreamingFlag,
     PlayingUnset,
     UnusedSong,
     UnusedList,
@@ -35,7 +37,7 @@ pub enum Item {
 
 impl Item {
     /// All items.
-    pub const ALL: [Item; 18] = [
+    pub const ALL: [Item; 20] = [
         Item::Mode,
         Item::OrderKind,
         Item::MotorNotOff,
@@ -48,6 +50,8 @@ impl Item {
         Item::StreamId,
         Item::StreamSizes,
         Item::SongLength,
+        Item::PlayingFlag,
+        Item::StreamingFlag,
         Item::PlayingUnset,
         Item::UnusedSong,
         Item::UnusedList,
@@ -71,6 +75,8 @@ impl Item {
             Item::StreamId => "stream-list-id",
             Item::StreamSizes => "stream-list-sizes",
             Item::SongLength => "song-length",
+            Item::PlayingFlag => "playing-flag",
+            Item::StreamingFlag => "streaming-flag",
             Item::PlayingUnset => "playing-unset",
             Item::UnusedSong => "unused-song",
             Item::UnusedList => "unused-list",
@@ -95,6 +101,8 @@ impl Item {
             Item::StreamId => list_ids_in_range(board),
             Item::StreamSizes => list_sizes_in_range(board),
             Item::SongLength => song_lengths_in_range(board),
+            Item::PlayingFlag => board.playing <= 1,
+            Item::StreamingFlag => board.streaming <= 1,
             Item::PlayingUnset => playing_is_set(board),
             Item::UnusedSong => unused_notes_are_zero(board),
             Item::UnusedList => unused_ids_are_zero(board),
@@ -119,6 +127,8 @@ pub fn is_good(board: &Board) -> bool {
         && list_ids_in_range(board)
         && list_sizes_in_range(board)
         && song_lengths_in_range(board)
+        && board.playing <= 1
+        && board.streaming <= 1
         && playing_is_set(board)
         && unused_notes_are_zero(board)
         && unused_ids_are_zero(board)
@@ -180,10 +190,11 @@ fn song_lengths_in_range(board: &Board) -> bool {
     board.songs.iter().all(|song| song.length <= MOST_COUNTED)
 }
 
-/// A selected song that is out of range is another item's fault.
+/// A selected song that is out of range is another item's fault, and so is a
+/// flag that is neither 0 nor 1: it doesn't say that a song plays.
 fn playing_is_set(board: &Board) -> bool {
     let selected = board.songs.get(usize::from(board.selected));
-    !board.playing || selected.is_none_or(|song| song.length != 0)
+    board.playing != 1 || selected.is_none_or(|song| song.length != 0)
 }
 
 fn unused_notes_are_zero(board: &Board) -> bool {

@@ -42,7 +42,8 @@ pub enum Command<'a> {
     Sensors(u8),
     List(&'a [u8]),
     Stream(&'a [u8]),
-    Pause(bool),
+    /// 0 off, 1 on.
+    Pause(u8),
 }
 
 /// Whether an offered command may be given in a mode.
@@ -81,7 +82,7 @@ pub fn parse(opcode: u8, data: &[u8]) -> Option<Command<'_>> {
             (is_list(count, ids) && streams(ids)).then_some(Command::Stream(ids))
         }
         (149, &[count, ref ids @ ..]) => is_list(count, ids).then_some(Command::List(ids)),
-        (150, &[state]) => (state <= 1).then_some(Command::Pause(state == 1)),
+        (150, &[state]) => (state <= 1).then_some(Command::Pause(state)),
         (151, &[byte]) => Some(Command::Infrared(byte)),
         _ => None,
     }

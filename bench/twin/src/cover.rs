@@ -1,5 +1,7 @@
 //! Counting what a file of calls meets of the rules.
 
+mod flags;
+
 use std::cmp::Ordering;
 use std::io::{self, Write};
 
@@ -10,6 +12,8 @@ use crate::file::Call;
 use crate::frame::{self, Standing};
 use crate::perform::{Observer, Outcome};
 use crate::writer::Message;
+
+use flags::Flags;
 
 const MODES: [Mode; 4] = [Mode::Off, Mode::Passive, Mode::Safe, Mode::Full];
 
@@ -31,6 +35,8 @@ pub struct Cover {
     done: [[u64; MODES.len()]; 256],
     /// By item: how often a call got a record that breaks it and no other.
     bad: [u64; Item::ALL.len()],
+    /// Of records whose flags are none.
+    flags: Flags,
     /// Of Demo alone.
     demo: Demo,
     /// By row of `CLIFFS`: how often a report met it.
@@ -56,6 +62,7 @@ impl Cover {
             numbers: [[0; 10]; KINDS.len()],
             done: [[0; MODES.len()]; 256],
             bad: [0; Item::ALL.len()],
+            flags: Flags::default(),
             demo: Demo::new(),
             cliffs: [0; CLIFFS.len()],
             at_hand: None,
@@ -83,6 +90,7 @@ impl Cover {
         for (item, count) in Item::ALL.iter().zip(self.bad) {
             writeln!(out, "bad {} {count}", item.name())?;
         }
+        self.flags.write_rows(out)?;
         self.demo.write_rows(out)?;
         for ((mode, bend, side, _), count) in CLIFFS.iter().zip(self.cliffs) {
             writeln!(out, "cliff {mode:?} {bend} {side} {count}")?;
@@ -131,6 +139,7 @@ impl Observer for Cover {
         }
         if !check::is_good(board) {
             self.broken = check::only_broken(board);
+            self.flags.count(call, board);
         }
         if let Some(row) = held_demo(board) {
             self.demo.held[row] += 1;

@@ -59,7 +59,6 @@ pub enum Why {
     Flags,
     Run,
     Room,
-    NotAFlag,
 }
 
 impl fmt::Display for Why {
@@ -70,7 +69,6 @@ impl fmt::Display for Why {
             Why::Flags => "flags above 7",
             Why::Run => "run above 1024",
             Why::Room => "room above 1024",
-            Why::NotAFlag => "neither 0 nor 1",
         })
     }
 }
@@ -168,8 +166,7 @@ fn read_record<'a>(kind: u8, body: &mut Body<'a>) -> Result<Record<'a>, Why> {
         }
         kind::STATE => {
             let bytes = body.array::<STATE_BYTES>()?;
-            let board = layout::state_from_bytes(bytes).ok_or(Why::NotAFlag)?;
-            Record::Setting(Setting::State(Box::new(board)))
+            Record::Setting(Setting::State(Box::new(layout::state_from_bytes(bytes))))
         }
         kind::MESSAGE => {
             let bytes = body.array::<MESSAGE_BYTES>()?;

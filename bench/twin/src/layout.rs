@@ -36,26 +36,25 @@ pub fn state_bytes(board: &Board) -> [u8; STATE_BYTES] {
         place[1..].copy_from_slice(&song.notes);
     }
     bytes[543] = board.selected;
-    bytes[PLAYING_AT] = u8::from(board.playing);
+    bytes[PLAYING_AT] = board.playing;
     bytes[LIST_AT..561].copy_from_slice(&board.list.places);
     bytes[561] = board.list.used;
-    bytes[STREAMING_AT] = u8::from(board.streaming);
+    bytes[STREAMING_AT] = board.streaming;
     bytes[HELD_AT..598].copy_from_slice(&board.held.places);
     bytes[598..600].copy_from_slice(&board.held.used.to_be_bytes());
     bytes[600..].copy_from_slice(&board.held.owed.to_be_bytes());
     bytes
 }
 
-/// The state record of these bytes. Any bytes will do, but for those that tell
-/// whether a song plays and whether streaming is on: they are 0 or 1.
-pub fn state_from_bytes(bytes: &[u8; STATE_BYTES]) -> Option<Board> {
+/// The state record of these bytes. Any bytes are one, if perhaps a bad one.
+pub fn state_from_bytes(bytes: &[u8; STATE_BYTES]) -> Board {
     let mut songs = [Song::UNSET; 16];
     let places = bytes[SONGS_AT..].chunks_exact(SONG_BYTES);
     for (song, place) in songs.iter_mut().zip(places) {
         song.length = place[0];
         song.notes.copy_from_slice(&place[1..]);
     }
-    Some(Board {
+    Board {
         mode: bytes[0],
         wheels: WheelOrder {
             kind: bytes[1],
@@ -69,18 +68,18 @@ pub fn state_from_bytes(bytes: &[u8; STATE_BYTES]) -> Option<Board> {
         infrared: bytes[14],
         songs,
         selected: bytes[543],
-        playing: flag(bytes[PLAYING_AT])?,
+        playing: bytes[PLAYING_AT],
         list: StreamList {
             places: part(bytes, LIST_AT),
             used: bytes[561],
         },
-        streaming: flag(bytes[STREAMING_AT])?,
+        streaming: bytes[STREAMING_AT],
         held: HeldFrame {
             places: part(bytes, HELD_AT),
             used: u16::from_be_bytes(part(bytes, 598)),
             owed: u16::from_be_bytes(part(bytes, 600)),
         },
-    })
+    }
 }
 
 /// A message in bytes.
@@ -111,12 +110,4 @@ fn part<const N: usize>(bytes: &[u8], start: usize) -> [u8; N] {
     let mut part = [0; N];
     part.copy_from_slice(&bytes[start..start + N]);
     part
-}
-
-fn flag(byte: u8) -> Option<bool> {
-    match byte {
-        0 => Some(false),
-        1 => Some(true),
-        _ => None,
-    }
 }

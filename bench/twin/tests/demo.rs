@@ -36,7 +36,7 @@ fn busy_in(mode: Mode) -> Board {
         board.wheels = WheelOrder::none();
         board.duties = [0; 3];
     }
-    assert!(is_good(&board) && board.playing && board.streaming);
+    assert!(is_good(&board) && board.playing == 1 && board.streaming == 1);
     board
 }
 

@@ -110,10 +110,8 @@ fn malformed_files() {
     state.extend_from_slice(&layout::state_bytes(&Board::power_on()));
     let mut playing = state.clone();
     playing[1 + 544] = 2;
-    let mut streaming = state.clone();
-    streaming[1 + 562] = 255;
     let cut_and_wrong = &playing[..playing.len() - 1];
-    let rows: [(&[u8], &str); 26] = [
+    let rows: [(&[u8], &str); 24] = [
         (&[0], "unknown kind"),
         (&[6, 1, 1], "unknown kind"),
         (&[128], "unknown kind"),
@@ -137,8 +135,6 @@ fn malformed_files() {
         (&[131], "cut short"),
         (&state[..602], "cut short"),
         (cut_and_wrong, "cut short"),
-        (&playing, "neither 0 nor 1"),
-        (&streaming, "neither 0 nor 1"),
         (&[132; 40], "cut short"),
     ];
     for (fault, why) in rows {
@@ -149,6 +145,23 @@ fn malformed_files() {
         let last = format!("offset 3: {why}\n");
         assert_eq!(summary(&file, false), format!("{whole}{last}"));
         assert_eq!(trace(&file), format!("{whole_trace}{last}"));
+    }
+}
+
+/// A record whose flags are none is no fault of the file: each call answers 8,
+/// and the record stays as it came. The writer doesn't look at it.
+#[test]
+fn flags_that_are_none() {
+    for (place, byte) in [(544, 2), (544, 255), (562, 3), (562, 128)] {
+        let mut state = layout::state_bytes(&Board::power_on());
+        state[place] = byte;
+        let mut file = vec![131];
+        file.extend_from_slice(&state);
+        file.extend_from_slice(&[1, 128, 129, 0, 0, 129, 0, 1, 128, 2, 7, 3, 4, 132, 128]);
+        file.extend_from_slice(&[0; 39]);
+        let hex: String = state.iter().map(|byte| format!("{byte:02x}")).collect();
+        let refused = format!("8 0 0 - {hex}\n").repeat(6);
+        assert_eq!(trace(&file), format!("{refused}0 1 0 80 {hex}\n"));
     }
 }
 
@@ -245,6 +258,48 @@ fn cover_counts_of_demo() {
         "write 136 0 1",
         "write 136 4 2",
         "write 136 7 1",
+    ];
+    assert_eq!(met(&file), expected);
+}
+
+#[test]
+fn cover_counts_of_flags() {
+    // Playing, streaming, whether song 0 is set, the baud code, and the call.
+    let rows: [(u8, u8, bool, u8, &[u8]); 5] = [
+        (2, 0, true, 0, &[1, 128]),
+        (7, 1, false, 0, &[129, 0, 0]),
+        (0, 255, true, 0, &[129, 0, 1, 128]),
+        (3, 3, true, 0, &[2, 0]),
+        (1, 2, false, 12, &[4]),
+    ];
+    let mut file = Vec::new();
+    for (playing, streaming, set, baud, call) in rows {
+        let mut board = Board::power_on();
+        (board.playing, board.streaming, board.baud) = (playing, streaming, baud);
+        board.songs[0].length = u8::from(set);
+        file.push(131);
+        file.extend_from_slice(&layout::state_bytes(&board));
+        file.extend_from_slice(call);
+    }
+    let expected = [
+        "byte 8 1",
+        "run 8 2",
+        "report 8 1",
+        "song-end 8 1",
+        "bad playing-flag 2",
+        "bad streaming-flag 1",
+        "flag playing 2 1",
+        "flag playing other 1",
+        "flag playing byte 1",
+        "flag playing empty-run 1",
+        "flag playing song-set 1",
+        "flag playing song-unset 1",
+        "flag playing both-flags 1",
+        "flag streaming 255 1",
+        "flag streaming run 1",
+        "flag streaming song-set 1",
+        "flag streaming both-flags 1",
+        "flag streaming otherwise-bad 1",
     ];
     assert_eq!(met(&file), expected);
 }

@@ -60,7 +60,7 @@ type Change = (Item, fn(&mut Board));
 
 #[test]
 fn each_item_alone() {
-    let changes: [Change; 35] = [
+    let changes: [Change; 41] = [
         (Item::Mode, |b| b.mode = 4),
         (Item::Mode, |b| b.mode = 255),
         (Item::OrderKind, |b| b.wheels.kind = 3),
@@ -92,7 +92,16 @@ fn each_item_alone() {
             b.list.used = 5;
         }),
         (Item::SongLength, |b| b.songs[15].length = 17),
-        (Item::PlayingUnset, |b| b.playing = true),
+        (Item::PlayingFlag, |b| b.playing = 2),
+        (Item::PlayingFlag, |b| b.playing = 255),
+        (Item::PlayingFlag, |b| {
+            b.playing = 3;
+            b.songs[0].length = 1;
+        }),
+        (Item::StreamingFlag, |b| b.streaming = 2),
+        (Item::StreamingFlag, |b| b.streaming = 3),
+        (Item::StreamingFlag, |b| b.streaming = 255),
+        (Item::PlayingUnset, |b| b.playing = 1),
         (Item::UnusedSong, |b| b.songs[0].notes[0] = 1),
         (Item::UnusedSong, |b| {
             b.songs[7].length = 15;
@@ -186,10 +195,10 @@ fn odd_but_good() {
         },
         |b| {
             b.songs[0].length = 1;
-            b.playing = true;
+            b.playing = 1;
         },
         |b| b.selected = 15,
-        |b| b.streaming = true,
+        |b| b.streaming = 1,
         |b| b.held = held(&[137, 9], 3),
     ];
     for mode in [Mode::Off, Mode::Passive] {
@@ -207,19 +216,14 @@ fn any_record_can_be_laid_out() {
     for (place, byte) in bytes.iter_mut().enumerate() {
         *byte = (place * 7 + 3) as u8;
     }
-    bytes[layout::PLAYING_AT] = 1;
-    bytes[layout::STREAMING_AT] = 0;
-    let board = layout::state_from_bytes(&bytes).expect("flags are 0 or 1");
+    let board = layout::state_from_bytes(&bytes);
     assert_eq!(layout::state_bytes(&board), bytes);
     assert_eq!(
         board.held.owed,
         u16::from_be_bytes([bytes[600], bytes[601]])
     );
-    for place in [layout::PLAYING_AT, layout::STREAMING_AT] {
-        let mut bytes = bytes;
-        bytes[place] = 2;
-        assert!(layout::state_from_bytes(&bytes).is_none());
-    }
+    assert_eq!(board.playing, bytes[544]);
+    assert_eq!(board.streaming, bytes[562]);
 }
 
 /// A record's goodness is one conjunction of the items; random damage to good
@@ -235,11 +239,9 @@ fn goodness_is_all_items() {
         let mut bytes = layout::state_bytes(&holding(&[140, 3, 17], 9));
         for _ in 0..next() % 4 {
             let place = next() % layout::STATE_BYTES;
-            if place != layout::PLAYING_AT && place != layout::STREAMING_AT {
-                bytes[place] = (next() % 256) as u8;
-            }
+            bytes[place] = (next() % 256) as u8;
         }
-        let board = layout::state_from_bytes(&bytes).expect("flags are untouched");
+        let board = layout::state_from_bytes(&bytes);
         let kept = Item::ALL.iter().all(|item| item.kept(&board));
         assert_eq!(is_good(&board), kept);
         if !kept {

@@ -116,8 +116,8 @@ fn w12_stream_sizes() {
     let number = give_frame(&mut board, &[148, 4, 6, 6, 6, 6]);
     assert_eq!(number, Number::Done);
     assert_eq!(board.list.used, 4);
-    assert!(board.streaming);
-    board.streaming = false;
+    assert_eq!(board.streaming, 1);
+    board.streaming = 0;
     let before = board.clone();
     let number = give_frame(&mut board, &[148, 5, 6, 6, 6, 6, 6]);
     assert_eq!(number, Number::Data);
@@ -240,7 +240,7 @@ fn songs_and_play() {
     let song = [140, 3, 2, 60, 32, 61, 33];
     assert_eq!(give_frame(&mut board, &song), Number::Done);
     assert_eq!(give_frame(&mut board, &[141, 3]), Number::Done);
-    assert_eq!((board.selected, board.playing), (3, true));
+    assert_eq!((board.selected, board.playing), (3, 1));
     assert_eq!(give_frame(&mut board, &[141, 3]), Number::Busy);
     // An unset song while another plays is still an unset song.
     assert_eq!(give_frame(&mut board, &[141, 4]), Number::NoSong);
@@ -248,9 +248,9 @@ fn songs_and_play() {
     assert_eq!(give_frame(&mut board, &[140, 3, 1, 9, 8]), Number::Done);
     assert_eq!(board.songs[3].length, 1);
     assert_eq!(board.songs[3].notes[..4], [9, 8, 0, 0]);
-    assert!(board.playing);
+    assert_eq!(board.playing, 1);
     assert_eq!(board.song_end(), Number::Done);
-    assert_eq!((board.selected, board.playing), (3, false));
+    assert_eq!((board.selected, board.playing), (3, 0));
 }
 
 #[test]
@@ -407,7 +407,7 @@ fn ticks() {
     );
     board.mode = Mode::Passive as u8;
     assert_eq!(board.tick(&image(), &mut []), Answer::written(0));
-    board.streaming = true;
+    board.streaming = 1;
     assert_eq!(board.tick(&image(), &mut []), Answer::written(0));
     give(&mut board, &[148, 1, 7, 150, 0]);
     assert_eq!(board.tick(&image(), &mut []), Answer::written(0));

@@ -101,13 +101,8 @@ fn malformed(name: &str, rng: &mut Rng, count: u64, out: &mut dyn Write) -> io::
 fn faults() -> Vec<(&'static str, Vec<u8>)> {
     let mut state = vec![kind::STATE];
     state.extend_from_slice(&layout::state_bytes(&Board::power_on()));
-    let with = |place: usize, byte: u8| {
-        let mut state = state.clone();
-        state[1 + place] = byte;
-        state
-    };
-    let playing = with(layout::PLAYING_AT, 2);
-    let streaming = with(layout::STREAMING_AT, 2);
+    let mut no_flag = state.clone();
+    no_flag[1 + layout::PLAYING_AT] = 2;
     vec![
         ("kind-0", vec![0]),
         ("kind-6", vec![6]),
@@ -129,7 +124,7 @@ fn faults() -> Vec<(&'static str, Vec<u8>)> {
         ("cut-room-at-1", vec![kind::ROOM, 255]),
         ("cut-state-at-0", vec![kind::STATE]),
         ("cut-state-at-601", state[..602].to_vec()),
-        ("cut-state-with-2", playing[..602].to_vec()),
+        ("cut-state-with-2", no_flag[..602].to_vec()),
         ("cut-message-at-0", vec![kind::MESSAGE]),
         ("cut-message-at-39", vec![kind::MESSAGE; 40]),
         ("flags-8", vec![kind::REPORT, 8]),
@@ -140,9 +135,5 @@ fn faults() -> Vec<(&'static str, Vec<u8>)> {
         ("room-1025", vec![kind::ROOM, 4, 1]),
         ("room-65535", vec![kind::ROOM, 255, 255]),
         ("cut-room-1025", vec![kind::ROOM, 4, 1]),
-        ("state-544", playing),
-        ("state-562", streaming),
-        ("state-544-255", with(layout::PLAYING_AT, 255)),
-        ("state-562-128", with(layout::STREAMING_AT, 128)),
     ]
 }

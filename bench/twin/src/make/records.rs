@@ -4,6 +4,7 @@
 use crate::board::{Board, Mode, Number, StreamList, WheelOrder, LIST_PLACES};
 use crate::check::{self, Item};
 use crate::frame::{HeldFrame, FRAME_PLACES};
+use crate::layout::{self, STATE_BYTES};
 use crate::packet::{Image, IMAGE_BYTES};
 
 use super::edges::frame_at_an_end;
@@ -45,7 +46,7 @@ pub fn good_in(rng: &mut Rng, mode: Mode) -> Board {
     }
     board.selected = rng.byte(0, 15);
     let selected = board.songs[usize::from(board.selected)];
-    board.playing = selected.length != 0 && rng.flip();
+    board.playing = u8::from(selected.length != 0 && rng.flip());
     let count = rng.pick(&[0, 1, 3, 15, 16]);
     let ids = if rng.one_in(4) {
         frames::ids_of_sum(rng, 255)
@@ -53,7 +54,7 @@ pub fn good_in(rng: &mut Rng, mode: Mode) -> Board {
         frames::stream_ids(rng, count)
     };
     set_list(&mut board, &ids);
-    board.streaming = rng.flip();
+    board.streaming = rng.byte(0, 1);
     if rng.flip() {
         hold_any(rng, &mut board);
     }
@@ -137,7 +138,7 @@ fn break_item(rng: &mut Rng, board: &mut Board, item: Item) {
         Item::Baud => board.baud = beyond(rng, 12),
         Item::Selected => {
             board.selected = beyond(rng, 16);
-            board.playing = false;
+            board.playing = 0;
         }
         Item::StreamCount => {
             let ids = frames::stream_ids(rng, LIST_PLACES);
@@ -164,9 +165,11 @@ fn break_item(rng: &mut Rng, board: &mut Board, item: Item) {
             rng.fill(&mut song.notes);
             song.length = beyond(rng, 17);
         }
+        Item::PlayingFlag => board.playing = no_flag(rng),
+        Item::StreamingFlag => board.streaming = no_flag(rng),
         Item::PlayingUnset => {
             board.songs[usize::from(board.selected)] = Board::power_on().songs[0];
-            board.playing = true;
+            board.playing = 1;
         }
         Item::UnusedSong => {
             let song = &mut board.songs[rng.below(16)];
@@ -190,6 +193,13 @@ fn break_item(rng: &mut Rng, board: &mut Board, item: Item) {
 fn beyond(rng: &mut Rng, first: u8) -> u8 {
     let any = rng.byte(first, 255);
     rng.pick(&[first, 255, any])
+}
+
+/// A byte that is neither 0 nor 1, of which a reader that looks at one bit, or
+/// only for 0 or only for 1, makes a flag.
+fn no_flag(rng: &mut Rng) -> u8 {
+    let any = rng.byte(2, 255);
+    rng.pick(&[2, 3, 128, 254, 255, any])
 }
 
 /// Makes one place not in use other than 0: the first, the last or any.
@@ -331,7 +341,7 @@ fn at_an_end(rng: &mut Rng) -> Board {
         6 => board.outputs = rng.pick(&[0, 7, 8]),
         7 => board.baud = rng.pick(&[0, 11, 12]),
         8 => board.selected = rng.pick(&[0, 15, 16]),
-        9 => board.playing = !board.playing,
+        9 => board.playing = 1 - board.playing,
         10 => {
             let sum = rng.pick(&[255, 256]);
             let ids = frames::ids_of_sum(rng, sum);
@@ -358,6 +368,32 @@ fn at_an_end(rng: &mut Rng) -> Board {
         }
     }
     board
+}
+
+/// A record of which one flag or both are neither 0 nor 1. The rest is good or
+/// bad: the flags alone must do, and nothing else may hide behind them.
+fn with_no_flag(rng: &mut Rng) -> Board {
+    let mut board = if rng.flip() {
+        good(rng)
+    } else {
+        let item = rng.pick(&Item::ALL);
+        broken(rng, item)
+    };
+    let which = rng.byte(1, 3);
+    if which & 1 != 0 {
+        board.playing = no_flag(rng);
+    }
+    if which & 2 != 0 {
+        board.streaming = no_flag(rng);
+    }
+    board
+}
+
+/// A record of any bytes, of which hardly one is good.
+fn any(rng: &mut Rng) -> Board {
+    let mut bytes = [0; STATE_BYTES];
+    rng.fill(&mut bytes);
+    layout::state_from_bytes(&bytes)
 }
 
 /// A good record in Safe or Full with an order about which a cliff is decided.
@@ -397,9 +433,11 @@ pub fn records(tape: &mut Tape, rng: &mut Rng) {
             tape.report(rng.pick(&[2, 2, 2, 0, 1, 3, 4, 7]));
             continue;
         }
-        let board = match rng.below(8) {
-            0 | 1 => good(rng),
-            2 | 3 => at_an_end(rng),
+        let board = match rng.below(20) {
+            0..=4 => good(rng),
+            5..=8 => at_an_end(rng),
+            9 => with_no_flag(rng),
+            10 => any(rng),
             _ => {
                 let item = rng.pick(&Item::ALL);
                 broken(rng, item)
