@@ -187,7 +187,7 @@ module _ (s : State) (image : List ℕ) (room : ℕ) where
 
 -- ---- a song end
 
-pub song-end-is : (P : Outcome → Type 0) (s : State) → (acceptedOf s ≡ false → P (gives 8 s)) → (T (acceptedOf s) → P (gives 0 (withPlaying false s)))
+pub song-end-is : (P : Outcome → Type 0) (s : State) → (acceptedOf s ≡ false → P (gives 8 s)) → (T (acceptedOf s) → P (gives 0 (withPlaying 0 s)))
     → P (songEndOf s)
 unfolding songEndOf
 song-end-is P s f g = checked-is P s f g

@@ -122,7 +122,7 @@ stays s (report dropped cliff charger) t u =
 stays s (tick image buffer) t u =
     tick-is Stays s image (length buffer) (λ d. absurd (subst T d t)) (gives-stays 3 s tt t) (gives-stays 0 s tt t) (λ l. (λ (e : 0 ≡ 8). omega arith, t))
     (gives-stays 7 s tt t)
-stays s songEnd t u = song-end-is Stays s (λ d. absurd (subst T d t)) (λ v. gives-stays 0 (withPlaying false s) tt (accepted-stays s t .silent-kept))
+stays s songEnd t u = song-end-is Stays s (λ d. absurd (subst T d t)) (λ v. gives-stays 0 (withPlaying 0 s) tt (accepted-stays s t .silent-kept))
 
 -- ---- 9
 

@@ -23,13 +23,14 @@ use Rattle.command.specs.declared.Message.{Message}
 use Rattle.command.proofs.VariantLaws.{every}
 use Rattle.command.proofs.CommandTableLaws.{from-off}
 use Rattle.command.proofs.CommandsProved.{data-column}
-use Rattle.state.specs.State.{songAt, toPassive, withBaud, withList, withPartial}
+use Rattle.state.specs.State.{isYes, songAt, toPassive, withBaud, withList, withPartial}
 use Rattle.state.specs.Accepted.{isSet, acceptedOf}
 use Rattle.state.specs.Record.{StaysAccepted}
 use Rattle.state.specs.declared.State.{State}
 use Rattle.state.proofs.RecordProved.{accepted-stays}
 use Rattle.board.specs.Outcome.{Outcome, gives, answers, fitted}
 use Rattle.board.specs.Judge.{statusOf, dutyOf, Needs, nothing, aSong, packets, busy, effectOf, effectIn, answerOf, noSong, Rule, _if_, rules, first, judgedBy, judgeOf}
+use Rattle.board.proofs.LegalLaws.{pause-on}
 
 -- ---- effectOf
 
@@ -107,8 +108,8 @@ module _ (s : State) (t : T (acceptedOf s)) where
   effect-accepted (cmd.Play number) p a m e = k .play-kept number p (to-T _ (m .legal)) (to-T _ (not-false (isSet (songAt (s .songs) number)) e))
   effect-accepted (cmd.Sensors id) p a m e = t
   effect-accepted (cmd.QueryList ids) p a m e = t
-  effect-accepted (cmd.Stream ids) p a m e = accepted-stays (withList ids (take 16 p) s) (k .list-kept ids p m) .streaming-kept true
-  effect-accepted (cmd.Pause on) p a m e = k .streaming-kept (not (eqb on 0))
+  effect-accepted (cmd.Stream ids) p a m e = accepted-stays (withList ids (take 16 p) s) (k .list-kept ids p m) .streaming-kept 1 p (pause-on p)
+  effect-accepted (cmd.Pause on) p a m e = k .streaming-kept on p (to-T _ (m .legal))
   effect-accepted (cmd.Unknown op) p a m e = t
   effect-accepted (cmd.NotOffered op) p a m e = t
 
@@ -295,10 +296,10 @@ module _ (s : State) (p image : List ℕ) (room : ℕ) where
     pub carried-unset : isSet (songAt (s .songs) n) ≡ false → carried (cmd.Play n) ≡ gives 5 s
     carried-unset e = rw e refl
 
-    pub carried-busy : isSet (songAt (s .songs) n) ≡ true → s .songs .playing ≡ true → carried (cmd.Play n) ≡ gives 6 s
+    pub carried-busy : isSet (songAt (s .songs) n) ≡ true → isYes (s .songs .playing) ≡ true → carried (cmd.Play n) ≡ gives 6 s
     carried-busy e q = rw (e, q) refl
 
-    pub carried-play : isSet (songAt (s .songs) n) ≡ true → s .songs .playing ≡ false → carried (cmd.Play n) ≡ gives 0 (effectOf (cmd.Play n) p .sets s)
+    pub carried-play : isSet (songAt (s .songs) n) ≡ true → isYes (s .songs .playing) ≡ false → carried (cmd.Play n) ≡ gives 0 (effectOf (cmd.Play n) p .sets s)
     carried-play e q = rw (e, q, leb·zero room) refl
 
   -- 142 and 149

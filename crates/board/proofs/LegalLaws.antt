@@ -5,7 +5,7 @@ use mathlib.Core.Bool.{true, _&&_}
 use mathlib.Core.List.{List, [], _∷_}
 use Prim.Native.Nat.{ℕ, _*_, _≤_, _<_}
 use native.Mathlib.Omega.{arith}
-use lib.Dec.{leb}
+use lib.Dec.{T, leb}
 use lib.IntN.{pos}
 use lib.ListN.{take}
 use borrow.Author.Tests.{leb-true}
@@ -13,10 +13,14 @@ use Rattle.wire.specs.Lists.{allBytes}
 use Rattle.wire.proofs.BoolLaws.{both}
 use Rattle.packet.specs.Answers.{listableOf}
 use Rattle.command.specs.Layout.{storedCount}
-use Rattle.command.specs.CommandTable.{_to_, isLegal, upTo, rowOf, legalOf}
+use Rattle.command.specs.CommandTable.{_to_, isIn, isLegal, upTo, rowOf, legalOf}
 use Rattle.command.specs.Commands.{message}
 use Rattle.command.specs.declared.Command.the-variants as cmd
 use Rattle.command.proofs.CommandTableLaws.{up-to, byte-legal, query-legal}
+
+pub pause-on : (p : List ℕ) → T (legalOf (message (cmd.Pause 1) p))
+unfolding isIn isLegal rowOf legalOf
+pause-on p = tt
 
 module _ (n : ℕ) (p : List ℕ) where
   pub song-number : (notes : ℕ) → legalOf (message (cmd.Song n notes) p) ≡ true → n < 16

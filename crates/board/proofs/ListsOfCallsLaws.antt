@@ -140,7 +140,7 @@ same-count s songEnd = refl
 pub data Quiet (s : State) : State → Type 0 where
   same : Quiet s s
   stopped : s .mode ≡ safe → Quiet s (toPassive s)
-  silent : T (acceptedOf s) → Quiet s (withPlaying false s)
+  silent : T (acceptedOf s) → Quiet s (withPlaying 0 s)
 
 report-quiet : (s : State) (drop cliff charger : Bool) → Quiet s (reportOf s drop cliff charger .state)
 unfolding reportOf

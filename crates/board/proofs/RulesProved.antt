@@ -29,7 +29,7 @@ use Rattle.command.specs.declared.Command.the-variants as cmd
 use Rattle.command.specs.declared.Message.{Message}
 use Rattle.command.proofs.CommandTableLaws.{alike}
 use Rattle.command.proofs.CommandsProved.{data-column}
-use Rattle.state.specs.State.{songAt, withPartial, withPlaying, toPassive}
+use Rattle.state.specs.State.{isYes, songAt, withPartial, withPlaying, toPassive}
 use Rattle.state.specs.Accepted.{acceptedOf}
 use Rattle.state.specs.declared.State.{State}
 use Rattle.state.proofs.RecordProved.{accepted-exactly, accepted-stays}
@@ -143,11 +143,11 @@ module _ (s : State) (t : T (acceptedOf s)) where
       record {
         in-off = tick-off s image room t;
         streaming-off = λ n e. tick-silent s image room t n (simp e);
-        no-list = λ n e. tick-silent s image room t n (simp (e, and-false (s .stream .on)));
+        no-list = λ n e. tick-silent s image room t n (simp (e, and-false (isYes (s .stream .on))));
         chunk = λ n e h. tick-chunk s image room t n (simp (e, pos-eqb (s .stream .count) h));
       }
 
-  song-end-right : songEndOf s ≡ gives 0 (withPlaying false s)
+  song-end-right : songEndOf s ≡ gives 0 (withPlaying 0 s)
   unfolding songEndOf
   song-end-right = simp accepted
 

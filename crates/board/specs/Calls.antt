@@ -12,7 +12,7 @@ use Rattle.frame.specs.Push.{pushOf, emptyPartial, opcodes}
 use Rattle.frame.specs.declared.Pushed.{Pushed}
 use Rattle.packet.specs.Packets.{chunkBytes}
 use Rattle.command.specs.Layout.{decodeOf}
-use Rattle.state.specs.State.{off, passive, safe, drive, direct, motorsOff, withPartial, withPlaying, toPassive}
+use Rattle.state.specs.State.{off, passive, safe, isYes, drive, direct, motorsOff, withPartial, withPlaying, toPassive}
 use Rattle.state.specs.Accepted.{acceptedOf}
 use Rattle.state.specs.declared.Motors.{Motors}
 use Rattle.state.specs.declared.Stream.{Stream}
@@ -69,7 +69,7 @@ reportOf s drop cliff charger = checked s (gives 0 (afterReport s drop cliff cha
 
 -- streaming is on and the list isn't empty
 abbrev pub streams : Stream → Bool
-streams x = x .on && not (eqb (x .count) 0)
+streams x = isYes (x .on) && not (eqb (x .count) 0)
 
 -- the chunk for the list
 unfoldable pub chunkNow : State → List ℕ → List ℕ
@@ -86,7 +86,7 @@ tickOf s image room =
 
 -- it only clears playing
 unfoldable pub songEndOf : State → Outcome
-songEndOf s = checked s (gives 0 (withPlaying false s))
+songEndOf s = checked s (gives 0 (withPlaying 0 s))
 
 -- ---- a run
 

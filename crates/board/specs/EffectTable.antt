@@ -125,7 +125,7 @@ effectTable =
     ∷ [])
     ∷ row (2 ∷ 3 ∷ [])
     (staying 141
-    (setting (0 ∷ []) (λ s. withPlaying true (withSelected 0 s)) ∷ setting (15 ∷ []) (λ s. withPlaying true (withSelected 15 s)) ∷ []) ∷ [])
+    (setting (0 ∷ []) (λ s. withPlaying 1 (withSelected 0 s)) ∷ setting (15 ∷ []) (λ s. withPlaying 1 (withSelected 15 s)) ∷ []) ∷ [])
     -- 36 is the selected song, 37 playing, 38 the list's length
     ∷ row (1 ∷ 2 ∷ 3 ∷ [])
     (staying 142
@@ -146,12 +146,12 @@ effectTable =
     ∷ [])
     ∷ row (1 ∷ 2 ∷ 3 ∷ [])
     (staying 148
-    (setting (0 ∷ []) (λ s. withStreaming true (withList 0 (replicate 16 0) s))
-    ∷ setting (3 ∷ 9 ∷ 42 ∷ 7 ∷ []) (λ s. withStreaming true (withList 3 (padded 16 (9 ∷ 42 ∷ 7 ∷ [])) s))
-    ∷ setting (16 ∷ span 7 16) (λ s. withStreaming true (withList 16 (span 7 16) s))
+    (setting (0 ∷ []) (λ s. withStreaming 1 (withList 0 (replicate 16 0) s))
+    ∷ setting (3 ∷ 9 ∷ 42 ∷ 7 ∷ []) (λ s. withStreaming 1 (withList 3 (padded 16 (9 ∷ 42 ∷ 7 ∷ [])) s))
+    ∷ setting (16 ∷ span 7 16) (λ s. withStreaming 1 (withList 16 (span 7 16) s))
     ∷ [])
     ∷ [])
-    ∷ row (1 ∷ 2 ∷ 3 ∷ []) (staying 150 (setting (0 ∷ []) (withStreaming false) ∷ setting (1 ∷ []) (withStreaming true) ∷ []) ∷ [])
+    ∷ row (1 ∷ 2 ∷ 3 ∷ []) (staying 150 (setting (0 ∷ []) (withStreaming 0) ∷ setting (1 ∷ []) (withStreaming 1) ∷ []) ∷ [])
     ∷ []
 
 -- ---- the test
@@ -164,7 +164,7 @@ stopped s = withDuties (0 ∷ 0 ∷ 0 ∷ []) (withWheels 0 (pos 0) (pos 0) s)
 -- 29 13 is streamed, half a Drive is read
 abbrev pub telling : ℕ → State
 telling mode =
-    let s = withSelected 3 (withPlaying false (withMode mode moving)) in
+    let s = withSelected 3 (withPlaying 0 (withMode mode moving)) in
     cond (among (2 ∷ 3 ∷ []) mode) s (stopped s)
 
 abbrev pub sampleImage : List ℕ
@@ -186,7 +186,7 @@ judged e x s = judgeOf s (decodeOf (padded 35 (e .opcode ∷ x .sent))) sampleIm
 
 abbrev sampleRight : List ℕ → Entry → Sample → ℕ → Bool
 sampleRight modes e x mode =
-    all (λ s. sameOutcome (judged e x s) (expected modes e x mode s)) (telling mode ∷ withStreaming false (telling mode) ∷ [])
+    all (λ s. sameOutcome (judged e x s) (expected modes e x mode s)) (telling mode ∷ withStreaming 0 (telling mode) ∷ [])
 
 -- every sample, in all four modes
 abbrev pub rowRight : EffectRow → Bool

@@ -14,7 +14,7 @@ use Rattle.command.specs.CommandTable.{allowedOf, legalOf}
 use Rattle.command.specs.declared.Command.{Command}
 use Rattle.command.specs.declared.Command.the-variants as cmd
 use Rattle.command.specs.declared.Message.{Message}
-use Rattle.state.specs.State.{safe, full, drive, direct, songAt, withMode, withWheels, withDuties, withBaud, withLeds, withOutputs, withInfrared, withSong, withSelected, withPlaying, withList, withStreaming, toPassive}
+use Rattle.state.specs.State.{safe, full, isYes, drive, direct, songAt, withMode, withWheels, withDuties, withBaud, withLeds, withOutputs, withInfrared, withSong, withSelected, withPlaying, withList, withStreaming, toPassive}
 use Rattle.state.specs.Accepted.{isSet}
 use Rattle.state.specs.declared.Motors.{Motors}
 use Rattle.state.specs.declared.State.{State}
@@ -93,15 +93,15 @@ effectOf (cmd.Infrared code) p = does (withInfrared code)
 -- song replaced; the notes past its length are 0 in the payload
 effectOf (cmd.Song number notes) p = does (withSong number (record { len = notes; notes = p }))
 -- selected, playing
-effectOf (cmd.Play number) p = plays number (λ s. withPlaying true (withSelected number s))
+effectOf (cmd.Play number) p = plays number (λ s. withPlaying 1 (withSelected number s))
 -- answers that packet
 effectOf (cmd.Sensors id) p = asks (id ∷ [])
 -- answers the packets in order
 effectOf (cmd.QueryList ids) p = asks (take ids p)
 -- list replaced, streaming on
-effectOf (cmd.Stream ids) p = does (λ s. withStreaming true (withList ids (take 16 p) s))
+effectOf (cmd.Stream ids) p = does (λ s. withStreaming 1 (withList ids (take 16 p) s))
 -- streaming off or on, list kept
-effectOf (cmd.Pause on) p = does (withStreaming (not (eqb on 0)))
+effectOf (cmd.Pause on) p = does (withStreaming on)
 -- refused as such
 effectOf (cmd.Unknown op) p = does (λ s. s)
 effectOf (cmd.NotOffered op) p = does (λ s. s)
@@ -127,7 +127,7 @@ noSong s (packets ids) = false
 -- 6: Play while playing
 abbrev pub busy : State → Needs → Bool
 busy s nothing = false
-busy s (aSong n) = s .songs .playing
+busy s (aSong n) = isYes (s .songs .playing)
 busy s (packets ids) = false
 
 -- a number, and when it is given

@@ -61,9 +61,9 @@ pub record EffectColumn (p : List ℕ) : Type 0 where
   pub outputs : (bits : ℕ) → Does (cmd.Outputs bits) p (withOutputs bits)
   pub infrared : (code : ℕ) → Does (cmd.Infrared code) p (withInfrared code)
   pub song : (number notes : ℕ) → Does (cmd.Song number notes) p (withSong number (record { len = notes; notes = p }))
-  pub stream : (ids : ℕ) → Does (cmd.Stream ids) p (λ s. withStreaming true (withList ids (take 16 p) s))
-  pub pause-off : Does (cmd.Pause 0) p (withStreaming false)
-  pub pause-on : Does (cmd.Pause 1) p (withStreaming true)
+  pub stream : (ids : ℕ) → Does (cmd.Stream ids) p (λ s. withStreaming 1 (withList ids (take 16 p) s))
+  pub pause-off : Does (cmd.Pause 0) p (withStreaming 0)
+  pub pause-on : Does (cmd.Pause 1) p (withStreaming 1)
 
 -- a command in one of its modes, with legal data
 abbrev pub Judged : State → Command → List ℕ → Type 0
@@ -77,10 +77,10 @@ pub record NumberColumn (s : State) (image : List ℕ) (room : ℕ) : Type 0 whe
   pub not-legal : (m : Message) → refusalOf (m .command) ≡ 0 → allowedOf (m .command) (s .mode) ≡ true → legalOf m ≡ false
       → judgeOf s m image room ≡ gives 4 s
   pub no-song : (n : ℕ) (p : List ℕ) → Judged s (cmd.Play n) p → songAt (s .songs) n .len ≡ 0 → judgeOf s (message (cmd.Play n) p) image room ≡ gives 5 s
-  pub busy : (n : ℕ) (p : List ℕ) → Judged s (cmd.Play n) p → 0 < songAt (s .songs) n .len → s .songs .playing ≡ true
+  pub busy : (n : ℕ) (p : List ℕ) → Judged s (cmd.Play n) p → 0 < songAt (s .songs) n .len → s .songs .playing ≡ 1
       → judgeOf s (message (cmd.Play n) p) image room ≡ gives 6 s
-  pub play : (n : ℕ) (p : List ℕ) → Judged s (cmd.Play n) p → 0 < songAt (s .songs) n .len → s .songs .playing ≡ false
-      → judgeOf s (message (cmd.Play n) p) image room ≡ gives 0 (withPlaying true (withSelected n s))
+  pub play : (n : ℕ) (p : List ℕ) → Judged s (cmd.Play n) p → 0 < songAt (s .songs) n .len → s .songs .playing ≡ 0
+      → judgeOf s (message (cmd.Play n) p) image room ≡ gives 0 (withPlaying 1 (withSelected n s))
   -- the packets, or 7
   pub sensors : (id : ℕ) (p : List ℕ) → Judged s (cmd.Sensors id) p
       → judgeOf s (message (cmd.Sensors id) p) image room ≡ fitted (answerBytes (statusOf s) image (id ∷ [])) room s
@@ -151,9 +151,9 @@ pub record ReportRight (s : State) : Type 0 where
 -- THEOREM: a tick
 pub record TickRight (s : State) (image : List ℕ) (room : ℕ) : Type 0 where
   pub in-off : s .mode ≡ 0 → tickOf s image room ≡ gives 3 s
-  pub streaming-off : (s .mode ≡ 0 → ⊥) → s .stream .on ≡ false → tickOf s image room ≡ gives 0 s
+  pub streaming-off : (s .mode ≡ 0 → ⊥) → s .stream .on ≡ 0 → tickOf s image room ≡ gives 0 s
   pub no-list : (s .mode ≡ 0 → ⊥) → s .stream .count ≡ 0 → tickOf s image room ≡ gives 0 s
-  pub chunk : (s .mode ≡ 0 → ⊥) → s .stream .on ≡ true → 0 < s .stream .count
+  pub chunk : (s .mode ≡ 0 → ⊥) → s .stream .on ≡ 1 → 0 < s .stream .count
       → tickOf s image room ≡ fitted (chunkBytes (statusOf s) image (take (s .stream .count) (s .stream .ids))) room s
 
 -- ---- document 02, One: Demo takes a number
@@ -200,4 +200,4 @@ pub record RulesRight : Type 0 where
   pub demo-right : (s : State) → T (acceptedOf s) → s .partial ≡ emptyPartial → (image : List ℕ) (room : ℕ) → DemoRight s image room
   pub backing-right : (s : State) → BackingRight s
   -- a song end only clears playing
-  pub song-end-right : (s : State) → T (acceptedOf s) → songEndOf s ≡ gives 0 (withPlaying false s)
+  pub song-end-right : (s : State) → T (acceptedOf s) → songEndOf s ≡ gives 0 (withPlaying 0 s)

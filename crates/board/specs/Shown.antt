@@ -130,7 +130,7 @@ w11Bytes = span 100 40 ++ (1 ∷ 3 ∷ 0 ∷ 2 ∷ replicate 8 0)
 
 -- not streaming
 abbrev paused : State
-paused = withStreaming false (ready 1)
+paused = withStreaming 0 (ready 1)
 
 abbrev byteCases : List ByteCase
 byteCases =
@@ -155,7 +155,7 @@ byteCases =
     ∷ answering (ready 1) 51 (142 giving 9 ∷ 6 giving 7 ∷ []) []
     ∷ answering (ready 1) 52 (142 giving 9 ∷ 6 giving 0 ∷ []) w11Bytes
     -- W12
-    ∷ feeding paused (waiting (148 ∷ 4 ∷ 6 ∷ 6 ∷ 6 ∷ []) (6 giving 0)) (withStreaming true (withList 4 (padded 16 (6 ∷ 6 ∷ 6 ∷ 6 ∷ [])) paused))
+    ∷ feeding paused (waiting (148 ∷ 4 ∷ 6 ∷ 6 ∷ 6 ∷ []) (6 giving 0)) (withStreaming 1 (withList 4 (padded 16 (6 ∷ 6 ∷ 6 ∷ 6 ∷ [])) paused))
     ∷ refusing paused (waiting (148 ∷ 5 ∷ 6 ∷ 6 ∷ 6 ∷ 6 ∷ []) (6 giving 4))
     ∷ []
 

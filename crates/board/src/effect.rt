@@ -158,25 +158,25 @@ fn with_song(state: State, number: u8, len: u8, notes: [u8; 32]) -> State
 
 // Selected, and playing.
 fn with_played(state: State, number: u8) -> State
-    ensures { λ r. ⌜ r ≡ withPlaying true (withSelected number state) ⌝ }
+    ensures { λ r. ⌜ r ≡ withPlaying 1 (withSelected number state) ⌝ }
 {
     let mut songs = state.songs;
     songs.selected = number;
-    songs.playing = true;
+    songs.playing = state::YES;
     with_songs(state, songs)
 }
 
 // The list replaced by the first 16 places of the payload, and streaming on.
 fn with_streamed(state: State, count: u8, payload: [u8; 32]) -> State
-    ensures { λ r. ⌜ r ≡ withStreaming true (withList count (take 16 payload) state) ⌝ }
+    ensures { λ r. ⌜ r ≡ withStreaming 1 (withList count (take 16 payload) state) ⌝ }
 {
     let mut ids = [0u8; 16];
     wire::put_part(&payload, 0, 16, &mut ids, 0);
-    let on = true;
+    let on = state::YES;
     with_stream(state, Stream { ids, count, on })
 }
 
-fn with_streaming(state: State, on: bool) -> State
+fn with_streaming(state: State, on: u8) -> State
     ensures { λ r. ⌜ r ≡ withStreaming on state ⌝ }
 {
     let mut stream = state.stream;
@@ -231,7 +231,7 @@ pub fn effect(state: State, message: Message) -> State
         Command::Sensors(_) => state,
         Command::QueryList(_) => state,
         Command::Stream(ids) => with_streamed(state, ids, payload),
-        Command::Pause(on) => with_streaming(state, on != 0),
+        Command::Pause(on) => with_streaming(state, on),
         Command::Unknown(_) => state,
         Command::NotOffered(_) => state,
     }

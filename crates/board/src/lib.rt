@@ -158,7 +158,7 @@ fn carry_out(state: State, message: Message, image: &[u8; 40], buffer: &mut [u8]
             if !is_set(songs, number) {
                 return wire::refuse(NO_SONG);
             }
-            if songs.playing {
+            if songs.playing == state::YES {
                 return wire::refuse(BUSY);
             }
             done()
@@ -326,7 +326,7 @@ pub fn tick(state: State, image: &[u8; 40], buffer: &mut [u8]) -> Answer
         return give(WRONG_MODE, state);
     }
     let stream = state.stream;
-    if !stream.on {
+    if stream.on != state::YES {
         return give(DONE, state);
     }
     if stream.count == 0 {
@@ -354,6 +354,6 @@ pub fn song_end(state: State) -> Answer
         return give(BAD_RECORD, state);
     }
     let mut songs = state.songs;
-    songs.playing = false;
+    songs.playing = state::NO;
     give(DONE, with_songs(state, songs))
 }

@@ -14,14 +14,6 @@ use Rattle.wire.proofs.ListsLaws.{drop-zeros}
 
 -- ---- overwrite
 
-pub overwrite-nil : (d : List ℕ) → overwrite [] d ≡ d
-unfolding overwrite
-overwrite-nil d = refl
-
-pub length-overwrite : (a d : List ℕ) → length a ≤ length d → length (overwrite a d) ≡ length d
-unfolding overwrite
-length-overwrite a d h = simp (length-append, length-drop) (omega arith)
-
 -- a list at the start of an array of zeros
 pub overwrite-zeros : (a : List ℕ) (n : ℕ) → overwrite a (replicate n 0) ≡ padded n a
 unfolding overwrite

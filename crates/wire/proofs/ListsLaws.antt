@@ -34,13 +34,7 @@ take-span l i zero h = refl
 take-span l i (suc n) h =
     ap (take (suc n)) (drop-cons l i 0 (omega arith)) ∙ ap (λ (m : List ℕ). getD l i 0 ∷ m) (take-span l (suc i) n (omega arith))
 
--- ---- span: the numbers from p on, below an end
-
-pub span-next : (p end : ℕ) → p < end → span p (end - p) ≡ p ∷ span (p + 1) (end - (p + 1))
-span-next p end h = let e : end - p ≡ suc (end - (p + 1)) = omega arith in rw (e, add-one p) refl
-
-pub span-end : (p end : ℕ) → end ≤ p → span p (end - p) ≡ []
-span-end p end h = let e : end - p ≡ 0 = omega arith in rw e refl
+-- ---- span
 
 -- from a number to itself
 pub from-to-one : (a : ℕ) → fromTo a a ≡ a ∷ []

@@ -9,7 +9,7 @@ use native.Mathlib.Omega.{arith}
 use lib.Dec.{T}
 use lib.ListN.{length, take}
 use borrow.Author.Needs.{needs}
-use borrow.Author.Tests.{not-true, not-false}
+use borrow.Author.Tests.{eq-eqb, ne-eqb, not-true, not-false}
 use Rattle.wire.specs.Lists.{fromTo}
 use Rattle.packet.specs.Packets.{answerBytes}
 use Rattle.command.specs.CommandTable.{legalOf}
@@ -72,25 +72,25 @@ returns c =
 
 returns-2 : tie.Need-returns-2
 returns-2 c =
-    let test = c .before .before in
+    let test = c .before .before .before in
     let set = test .before in
     let a = begun set .args in
     sent-gives (a .state) (a .buffer .now)
     (left-play set
     (carried-busy (a .state) (a .message .payload) (a .image .now) (length (a .buffer .now)) (number set)
-    (sym (set .is-set .ensures) ∙ not-false _ (test .if1 .left)) (c .before .if2 .taken)))
+    (sym (set .is-set .ensures) ∙ not-false _ (test .if1 .left)) (eq-eqb _ _ (c .before .if2 .taken))))
     (c .refuse2 .ensures)
 
 returns-3 : tie.Need-returns-3
 returns-3 c =
     let busy = c .before in
-    let test = busy .before in
+    let test = busy .before .before in
     let set = test .before in
     let a = begun set .args in
     sent-gives _ (a .buffer .now)
     (left-play set
     (carried-play (a .state) (a .message .payload) (a .image .now) (length (a .buffer .now)) (number set)
-    (sym (set .is-set .ensures) ∙ not-false _ (test .if1 .left)) (busy .if2 .left)))
+    (sym (set .is-set .ensures) ∙ not-false _ (test .if1 .left)) (ne-eqb _ _ (busy .if2 .left))))
     (c .done .ensures)
 
 -- ---- 142

@@ -19,10 +19,10 @@ unfolding songEndOf
 returns c =
     let s = c .before .before .before .args .state in
     let e = sym (c .before .before .accepts .ensures) ∙ not-true _ (c .before .if1 .taken) in
-    c .give .ensures ∙ ap answered (sym (checked-bad s (gives 0 (withPlaying false s)) e))
+    c .give .ensures ∙ ap answered (sym (checked-bad s (gives 0 (withPlaying 0 s)) e))
 
 -- it only clears playing
-silent : (c : tie.After-with-songs) → c .with-songs .result ≡ withPlaying false (c .before .before .before .before .args .state)
+silent : (c : tie.After-with-songs) → c .with-songs .result ≡ withPlaying 0 (c .before .before .before .before .args .state)
 silent c = c .with-songs .ensures
 
 returns-2 : tie.Need-returns-2
@@ -31,7 +31,7 @@ returns-2 c =
     let test = c .before .before .before in
     let s = test .before .before .args .state in
     let t = to-T (acceptedOf s) (sym (test .before .accepts .ensures) ∙ not-false _ (test .if1 .left)) in
-    c .give2 .ensures ∙ ap (λ (x : State). answered (gives 0 x)) (silent (c .before)) ∙ ap answered (sym (checked-good s (gives 0 (withPlaying false s)) t))
+    c .give2 .ensures ∙ ap (λ (x : State). answered (gives 0 x)) (silent (c .before)) ∙ ap answered (sym (checked-good s (gives 0 (withPlaying 0 s)) t))
 
 pub song-end-spec : {M : Type 1} → statement M
 song-end-spec =

@@ -8,7 +8,7 @@ use native.Mathlib.Omega.{arith}
 use lib.Dec.{T}
 use lib.ListN.{length}
 use borrow.Author.Needs.{needs}
-use borrow.Author.Tests.{ne-eqb, not-true, not-false}
+use borrow.Author.Tests.{eq-eqb, ne-eqb, not-true, not-false}
 use Rattle.wire.proofs.BoolLaws.{to-T}
 use Rattle.state.specs.Accepted.{acceptedOf}
 use Rattle.state.specs.Record.{Plain}
@@ -43,7 +43,7 @@ returns-3 c =
     let begun = mode .before .before in
     let a = begun .before .before .before .args in
     met-gives (a .buffer .now)
-    (tick-silent (a .state) (a .image .now) (length (a .buffer .now)) (checked begun) (mode .if2 .left) (simp (not-true (a .state .stream .on) (on .if3 .taken))))
+    (tick-silent (a .state) (a .image .now) (length (a .buffer .now)) (checked begun) (mode .if2 .left) (simp (ne-eqb (a .state .stream .on) 1 (on .if3 .taken))))
     (c .give3 .ensures)
 
 returns-4 : tie.Need-returns-4
@@ -55,7 +55,7 @@ returns-4 c =
     let a = begun .before .before .before .args in
     met-gives (a .buffer .now)
     (tick-silent (a .state) (a .image .now) (length (a .buffer .now)) (checked begun) (mode .if2 .left)
-    (simp (not-false (a .state .stream .on) (on .if3 .left), count .if4 .taken)))
+    (simp (eq-eqb (a .state .stream .on) 1 (on .if3 .left), count .if4 .taken)))
     (c .give4 .ensures)
 
 -- the list is lent
@@ -79,7 +79,7 @@ module _ (c : tie.After-ids2) where
   plain = accepted-exactly .tells asked (checked begun) .1
 
   streamed : streams (asked .stream) ≡ true
-  streamed = simp (not-false (asked .stream .on) (on .if3 .left), ne-eqb (asked .stream .count) 0 (count .if4 .left))
+  streamed = simp (eq-eqb (asked .stream .on) 1 (on .if3 .left), ne-eqb (asked .stream .count) 0 (count .if4 .left))
 
 part-chunk-end : tie.Need-part-chunk-end
 part-chunk-end c =

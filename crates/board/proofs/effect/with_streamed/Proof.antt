@@ -27,7 +27,7 @@ returns c =
     let a = c .before .before .before .before .before .args in
     let len : length (a .t3) ≡ 32 = search needs in
     c .with-stream .ensures
-    ∙ ap (λ (l : List ℕ). withStreaming true (withList (a .count) l (a .state))) (put-start (c .before .before .put-part .ensures) ∙ whole (a .t3) (replicate 16 0) len refl)
+    ∙ ap (λ (l : List ℕ). withStreaming 1 (withList (a .count) l (a .state))) (put-start (c .before .before .put-part .ensures) ∙ whole (a .t3) (replicate 16 0) len refl)
 
 pub with-streamed-spec : {M : Type 1} → statement M
 with-streamed-spec = tie.close (tie.spec (λ c. search needs) (λ c. search needs) (λ c κs. search needs) (λ c κs. search needs) returns)
