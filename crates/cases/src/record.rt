@@ -51,11 +51,11 @@ fn list(name: &[u8], bytes: &[u8], n: usize) -> usize {
     plus(say(name), say_bytes(&bytes[0..used]))
 }
 
-fn flag(name: &[u8], before: bool, after: bool) -> usize {
+fn flag(name: &[u8], before: u8, after: u8) -> usize {
     if before == after {
         return 0;
     }
-    if after {
+    if after == state::YES {
         return plus(say(name), say(b"on"));
     }
     plus(say(name), say(b"off"))

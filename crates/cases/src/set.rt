@@ -31,11 +31,11 @@ pub struct Part {
 pub fn setting_of(word: &[u8]) -> usize {
     which(
         word,
-        b"mode order first second duty baud outputs selected playing length note id ids held stored owed",
+        b"mode order first second duty baud outputs selected playing length note id ids streaming held stored owed",
     )
 }
 
-pub const SETTINGS: usize = 16;
+pub const SETTINGS: usize = 17;
 
 fn below(place: usize, inner: usize, value: usize) -> Limits {
     Limits {
@@ -49,11 +49,10 @@ pub fn limits_of(setting: usize) -> Limits {
     match setting {
         2 | 3 => below(0, 0, 65536),
         4 => below(3, 0, 256),
-        8 => below(0, 0, 2),
         9 | 11 => below(16, 0, 256),
         10 => below(16, 32, 256),
-        13 => below(35, 0, 256),
-        14 | 15 => below(0, 0, 32768),
+        14 => below(35, 0, 256),
+        15 | 16 => below(0, 0, 32768),
         _ => below(0, 0, 256),
     }
 }
@@ -128,7 +127,7 @@ fn set_songs(songs: Songs, setting: usize, i: usize, j: usize, b: u8) -> Songs {
     if setting == 7 {
         next.selected = b;
     } else if setting == 8 {
-        next.playing = b != 0;
+        next.playing = b;
     } else if i < 16 {
         let mut table = songs.table;
         let song = table[i];
@@ -143,6 +142,8 @@ fn set_stream(stream: Stream, setting: usize, i: usize, b: u8) -> Stream {
     let mut ids = stream.ids;
     if setting == 12 {
         next.count = b;
+    } else if setting == 13 {
+        next.on = b;
     } else if i < 16 {
         ids[i] = b;
         next.ids = ids;
@@ -153,9 +154,9 @@ fn set_stream(stream: Stream, setting: usize, i: usize, b: u8) -> Stream {
 fn set_partial(partial: Partial, setting: usize, i: usize, part: Part) -> Partial {
     let mut next = partial;
     let mut bytes = partial.bytes;
-    if setting == 14 {
+    if setting == 15 {
         next.count = part.bits;
-    } else if setting == 15 {
+    } else if setting == 16 {
         next.remaining = part.bits;
     } else if i < 35 {
         bytes[i] = wire::low16(part.value);
@@ -182,7 +183,7 @@ pub fn set(state: State, setting: usize, i: usize, j: usize, part: Part) -> Stat
         let songs = state.songs;
         let made = set_songs(songs, setting, i, j, b);
         next.songs = made;
-    } else if setting <= 12 {
+    } else if setting <= 13 {
         let stream = state.stream;
         let made = set_stream(stream, setting, i, b);
         next.stream = made;

@@ -68,7 +68,7 @@ fn say_motors(motors: Motors) {
 }
 
 fn say_stream(stream: Stream) {
-    if stream.on {
+    if stream.on == state::YES {
         say(b", streaming on, list of ");
     } else {
         say(b", streaming off, list of ");
@@ -176,7 +176,7 @@ pub fn say_state(state: State) {
     say_mode(state.mode);
     say_motors(motors);
     say_stream(stream);
-    if songs.playing {
+    if songs.playing == state::YES {
         say(b", playing song ");
         say_number(wide(songs.selected));
     }

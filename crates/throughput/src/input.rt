@@ -33,11 +33,9 @@ const LONG_RUN: u8 = 4;
 
 const LARGE_ROOM: u8 = 5;
 
-const NO_BOOL: u8 = 6;
+const END: u8 = 6;
 
-const END: u8 = 7;
-
-const FAILED: u8 = 8;
+const FAILED: u8 = 7;
 
 // The bytes of the block that are not used yet, and the offset of the first of them in the file. `over` is WHOLE while there may be more. A proved loop has to
 // end, and nothing says that the input does: the turns count down from a number that no file uses up.
@@ -150,9 +148,6 @@ fn body_fault(kind: u8, body: &[u8]) -> u8 {
     if kind == ROOM && word_at(body, 0) > 1024 {
         return LARGE_ROOM;
     }
-    if kind == STATE && (byte_at(body, 544) > 1 || byte_at(body, 562) > 1) {
-        return NO_BOOL;
-    }
     WHOLE
 }
 
@@ -256,7 +251,6 @@ pub fn say_fault(offset: usize, fault: u8) {
         LARGE_FLAGS => say(b": flags above 7\n"),
         LONG_RUN => say(b": run above 1024\n"),
         LARGE_ROOM => say(b": room above 1024\n"),
-        NO_BOOL => say(b": neither 0 nor 1\n"),
         _ => say(b": standard input cannot be read\n"),
     }
     ;

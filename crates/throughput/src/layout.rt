@@ -98,7 +98,7 @@ fn songs_at(bytes: &[u8]) -> Songs {
     Songs {
         table,
         selected: byte_at(bytes, 543),
-        playing: byte_at(bytes, 544) == 1,
+        playing: byte_at(bytes, 544),
     }
 }
 
@@ -108,7 +108,7 @@ fn stream_at(bytes: &[u8]) -> Stream {
     Stream {
         ids,
         count: byte_at(bytes, 561),
-        on: byte_at(bytes, 562) == 1,
+        on: byte_at(bytes, 562),
     }
 }
 
@@ -162,10 +162,6 @@ fn put_song(out: &mut [u8], at: usize, song: Song) {
     put(out, plus(at, 1), &notes);
 }
 
-fn flag(b: bool) -> u8 {
-    if b { 1 } else { 0 }
-}
-
 fn put_songs(out: &mut [u8], songs: Songs) {
     let table = songs.table;
     let mut i = 0;
@@ -175,14 +171,14 @@ fn put_songs(out: &mut [u8], songs: Songs) {
         i += 1;
     }
     put_byte(out, 543, songs.selected);
-    put_byte(out, 544, flag(songs.playing));
+    put_byte(out, 544, songs.playing);
 }
 
 fn put_stream(out: &mut [u8], stream: Stream) {
     let ids = stream.ids;
     put(out, 545, &ids);
     put_byte(out, 561, stream.count);
-    put_byte(out, 562, flag(stream.on));
+    put_byte(out, 562, stream.on);
 }
 
 fn put_partial(out: &mut [u8], partial: Partial) {
