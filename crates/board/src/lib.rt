@@ -32,9 +32,6 @@ ghost use Rattle.board.specs.Calls.{byteOf, backsRound, intoCliff, stops
 use command::Command;
 use command::Message;
 use effect::effect;
-use effect::to_passive;
-use effect::with_partial;
-use effect::with_songs;
 use packet::Status;
 use state::Motors;
 use state::Songs;
@@ -218,7 +215,7 @@ pub fn run(state: State, bytes: &[u8], image: &[u8; 40], buffer: &mut [u8]) -> R
     let mut read = 0;
     let ran = loop {
         if read == bytes.len() {
-            break ended(WAITING, with_partial(state, partial), read);
+            break ended(WAITING, state::with_partial(state, partial), read);
         }
         let absorbed = frame::absorb(partial, &bytes[read..]);
         read += absorbed.count;
@@ -227,7 +224,7 @@ pub fn run(state: State, bytes: &[u8], image: &[u8; 40], buffer: &mut [u8]) -> R
             let held = whole.bytes;
             let message = command::decode(held);
             let sent = judge(state, message, image, buffer);
-            let cleared = with_partial(state, frame::empty());
+            let cleared = state::with_partial(state, frame::empty());
             if sent.number != DONE {
                 break ended(sent.number, cleared, read);
             }
@@ -309,7 +306,7 @@ pub fn safety_report(state: State, drop: bool, cliff: bool, charger: bool) -> An
     }
     let motors = state.motors;
     if state.mode == command::SAFE && stops_for(motors, drop, cliff, charger) {
-        return give(DONE, to_passive(state));
+        return give(DONE, state::to_passive(state));
     }
     give(DONE, state)
 }
@@ -355,5 +352,5 @@ pub fn song_end(state: State) -> Answer
     }
     let mut songs = state.songs;
     songs.playing = state::NO;
-    give(DONE, with_songs(state, songs))
+    give(DONE, state::with_songs(state, songs))
 }

@@ -11,6 +11,7 @@
 // Proved (specs/Record.antt): which records are accepted, exactly; the power-on record is; each setter keeps a record accepted, under the condition on what it
 // sets; and (specs/Same.antt) the test of two records is equality.
 mod compare;
+mod setters;
 
 ghost use mathlib.Core.Path.{_≡_};
 ghost use mathlib.Core.Bool.{_&&_};
@@ -23,6 +24,23 @@ ghost use Rattle.state.specs.State.{powerOn, motorsOff};
 ghost use Rattle.state.specs.Accepted.{orderNamed, offUnlessDriven, wheelsLegal, dutiesLegal, motorsOk, keptOk, songOk, songsOk, streamOk, acceptedOf};
 pub use compare::same;
 use frame::Partial;
+pub use setters::to_passive;
+pub use setters::with_baud;
+pub use setters::with_duties;
+pub use setters::with_infrared;
+pub use setters::with_kept;
+pub use setters::with_leds;
+pub use setters::with_mode;
+pub use setters::with_motors;
+pub use setters::with_outputs;
+pub use setters::with_partial;
+pub use setters::with_played;
+pub use setters::with_song;
+pub use setters::with_songs;
+pub use setters::with_stream;
+pub use setters::with_streamed;
+pub use setters::with_streaming;
+pub use setters::with_wheels;
 
 // Power-on's baud code.
 const FIRST_BAUD: u8 = 10;

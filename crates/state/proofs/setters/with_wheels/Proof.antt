@@ -1,10 +1,10 @@
--- `board::effect::with_wheels` meets its contract.
+-- `state::setters::with_wheels` meets its contract.
 -- Assumes nothing.
 use mir.Syntax.{w16}
 use mir.ValLaws.{toZ-ofZ}
 use borrow.Author.Needs.{needs}
-use Rattle.board.proofs.effect.with_wheels.Statement.{statement}
-use Rattle.board.proofs.effect.with_wheels.Tie as tie
+use Rattle.state.proofs.setters.with_wheels.Statement.{statement}
+use Rattle.state.proofs.setters.with_wheels.Tie as tie
 
 returns : tie.Need-returns
 returns c =

@@ -1,4 +1,4 @@
--- `board::effect::with_streamed` meets its contract: the 16 places are overwritten whole.
+-- `state::setters::with_streamed` meets its contract: the 16 places are overwritten whole.
 -- Assumes nothing.
 use mathlib.Core.Path.{_≡_, refl, ap, _∙_}
 use mathlib.Core.Bool.{true}
@@ -10,9 +10,9 @@ use lib.Seq.{length-take-le}
 use borrow.Author.Needs.{needs}
 use Rattle.wire.specs.Buffer.{overwrite}
 use Rattle.wire.proofs.BufferLaws.{put-start}
 use Rattle.state.specs.State.{withList, withStreaming}
-use Rattle.board.proofs.effect.with_streamed.Statement.{statement}
-use Rattle.board.proofs.effect.with_streamed.Tie as tie
+use Rattle.state.proofs.setters.with_streamed.Statement.{statement}
+use Rattle.state.proofs.setters.with_streamed.Tie as tie
 
 -- 16 of the 32 places, written over 16
 whole : (p d : List ℕ) → length p ≡ 32 → length d ≡ 16 → overwrite (take 16 (drop 0 p)) d ≡ take 16 p

@@ -1,10 +1,10 @@
--- `board::effect::to_passive` meets its contract.
+-- `state::setters::to_passive` meets its contract.
 -- Assumes nothing.
 use mathlib.Core.Path.{ap, _∙_}
 use borrow.Author.Needs.{needs}
 use Rattle.state.specs.State.{withMode}
-use Rattle.board.proofs.effect.to_passive.Statement.{statement}
-use Rattle.board.proofs.effect.to_passive.Tie as tie
+use Rattle.state.proofs.setters.to_passive.Statement.{statement}
+use Rattle.state.proofs.setters.to_passive.Tie as tie
 
 stops : tie.Need-returns
 stops c = c .with-mode .ensures ∙ ap (withMode 1) (c .before .with-motors .ensures)
