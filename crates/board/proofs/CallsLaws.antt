@@ -10,10 +10,9 @@ use lib.ListN.{length}
 use mir.Facts.{and-yes}
 use borrow.Author.Tests.{eq-eqb, ne-eqb, leb-true, eqb-true, eqb-false}
 use Rattle.wire.proofs.BoolLaws.{is-true, to-T, cond-true, cond-false, cond-is}
-use Rattle.frame.specs.Push.{pushOf, emptyPartial, nextOf}
+use Rattle.frame.specs.Push.{Pushed, pushOf, emptyPartial, nextOf}
 use Rattle.frame.specs.Reach.{isArray, reachableOf}
 use Rattle.frame.specs.declared.Partial.{Partial}
-use Rattle.frame.specs.declared.Pushed.{Pushed}
 use Rattle.frame.proofs.PushLaws.{next-complete, next-more}
 use Rattle.frame.proofs.ReachLaws.{empty-reachable}
 use Rattle.frame.proofs.CutProved.{every-push, run-of-128s}

@@ -15,12 +15,11 @@ use Rattle.wire.specs.Lists.{all, upToTrue, isByte, allBytes}
 use Rattle.wire.proofs.BoolLaws.{is-true, to-T, both, le-or-lt}
 use Rattle.wire.proofs.ListsLaws.{getD-any, all-front}
 use Rattle.frame.specs.FrameTable.{dataLength}
-use Rattle.frame.specs.Push.{bodySizeAs, pushOf, emptyPartial, nextOf, afterOf, opcodes, completed}
+use Rattle.frame.specs.Push.{Pushed, bodySizeAs, pushOf, emptyPartial, nextOf, afterOf, opcodes, completed}
 use Rattle.frame.specs.Reach.{reachableOf}
 use Rattle.frame.specs.RunTable.{waits}
 use Rattle.frame.specs.Cut.{longSong}
 use Rattle.frame.specs.declared.Partial.{Partial}
-use Rattle.frame.specs.declared.Pushed.{Pushed}
 use Rattle.frame.proofs.PushLaws.{push-skipped, next-more}
 use Rattle.frame.proofs.ReachLaws.{empty-is}
 use Rattle.frame.proofs.RunTableLaws.{waits-le}

@@ -15,13 +15,12 @@ use Rattle.wire.specs.Lists.{snoc}
 use Rattle.wire.proofs.BoolLaws.{is-true, cond-true, cond-false, le-or-lt}
 use Rattle.wire.proofs.ListsLaws.{drop-next}
 use Rattle.wire.specs.declared.Sent.{Sent}
-use Rattle.frame.specs.Push.{pushOf, emptyPartial, nextOf}
+use Rattle.frame.specs.Push.{Pushed, pushOf, emptyPartial, nextOf}
 use Rattle.frame.specs.Absorb.{absorbOf, Waits, Steps}
 use Rattle.frame.specs.declared.Absorbed.{Absorbed}
 use Rattle.frame.specs.declared.Partial.{Partial}
-use Rattle.frame.specs.declared.Pushed.{Pushed}
 use Rattle.frame.proofs.PushLaws.{next-more}
-use Rattle.frame.proofs.AbsorbLaws.{absorb-steps, absorb-inside}
+use Rattle.frame.proofs.AbsorbLaws.{taken-at-once}
 use Rattle.command.specs.Layout.{decodeOf}
 use Rattle.command.specs.declared.Message.{Message}
 use Rattle.state.specs.State.{withPartial}
@@ -33,7 +32,7 @@ use Rattle.board.specs.Calls.{byteOf, Performed, performed, readBy, late
 use Rattle.board.specs.declared.Ran.{Ran}
 use Rattle.board.proofs.JudgeLaws.{judge-small, judge-refused, held-refused, held-done}
 use Rattle.board.proofs.OutcomeLaws.{Met, nothing-written, MetSent, sent-number}
-use Rattle.board.proofs.CallsLaws.{takes-accepted, messageOf, judgedAt, byte-bad, byte-waits, byte-judged, byte-nine}
+use Rattle.board.proofs.CallsLaws.{accepted-reachable, takes-accepted, messageOf, judgedAt, byte-bad, byte-waits, byte-judged, byte-nine}
 
 -- ---- what comes back
 
@@ -203,7 +202,7 @@ module _ (s : State) (bytes image : List ℕ) (room : ℕ) where
       there = let e = length-drop n bytes in omega arith
 
       steps : Steps p (drop n bytes) absorbed
-      steps = absorb-steps p (drop n bytes) there
+      steps = taken-at-once .steps p (drop n bytes) (accepted-reachable (withPartial p s) (g .accepted)) there
 
       -- at the last byte that is absorbed
       ahead : Ahead (steps .before) (steps .last) (n + length (steps .front))
@@ -214,13 +213,13 @@ module _ (s : State) (bytes image : List ℕ) (room : ℕ) where
 
       counted : n + length (steps .front) + 1 ≡ n + absorbed .count
       counted =
-          let e = sym (length-take-le (absorbed .count) (drop n bytes) (absorb-inside p (drop n bytes) there .1)) ∙ ap length (steps .taken)
+          let e = sym (length-take-le (absorbed .count) (drop n bytes) (taken-at-once .some p (drop n bytes) there .1)) ∙ ap length (steps .taken)
           ∙ length-append (steps .front) (steps .last ∷ []) in
           omega arith
 
       pub absorbed-inside : (1 ≤ absorbed .count) × (n + absorbed .count ≤ length bytes)
       absorbed-inside =
-          let i = absorb-inside p (drop n bytes) there in
+          let i = taken-at-once .some p (drop n bytes) there in
           let e = length-drop n bytes in
           (i .0, omega arith)
 

@@ -8,8 +8,7 @@ use lib.IntN.{ℤ, pos, natAbs, _+ℤ_, _-ℤ_}
 use lib.Signed.{ltZ}
 use lib.ListN.{length, take}
 use Rattle.wire.specs.Sixteen.{minus}
-use Rattle.frame.specs.Push.{pushOf, emptyPartial, opcodes}
-use Rattle.frame.specs.declared.Pushed.{Pushed}
+use Rattle.frame.specs.Push.{Pushed, pushOf, emptyPartial, opcodes}
 use Rattle.packet.specs.Packets.{chunkBytes}
 use Rattle.command.specs.Layout.{decodeOf}
 use Rattle.state.specs.State.{off, passive, safe, isYes, drive, direct, motorsOff, withPartial, withPlaying, toPassive}

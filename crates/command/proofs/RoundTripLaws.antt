@@ -19,9 +19,8 @@ use Rattle.wire.proofs.ListsLaws.{take-span, all-append, all-take, getD-zeros, 
 use Rattle.wire.proofs.SignedLaws.{round-trip-bits}
 use Rattle.wire.proofs.SixteenLaws.{round-trip16}
 use Rattle.frame.specs.FrameTable.{dataLength, headerSize}
-use Rattle.frame.specs.Push.{frameSizeAs, storesBodyAs, lengthOf, headerOf, frameSize, storesBody}
+use Rattle.frame.specs.Push.{Pushed, frameSizeAs, storesBodyAs, lengthOf, headerOf, frameSize, storesBody}
 use Rattle.frame.specs.Cut.{keptOf, CompleteAtLast}
-use Rattle.frame.specs.declared.Pushed.{Pushed}
 use Rattle.frame.specs.declared.Length.{Length}
 use Rattle.frame.specs.declared.Length.the-variants.{Fixed, Counted, Song, Unknown}
 use Rattle.frame.proofs.StoredLaws.{kept-all, kept-header}

@@ -16,12 +16,11 @@ use Rattle.wire.specs.Lists.{allBytes, byteArray}
 use Rattle.wire.proofs.BoolLaws.{le-or-lt, is-true, to-T, cond-true, cond-false, pos-eqb}
 use Rattle.wire.proofs.ListsLaws.{byte-at, array-set}
 use Rattle.frame.specs.FrameTable.{dataLength, dataBytes, headerSize}
-use Rattle.frame.specs.Push.{frameSizeAs, frameSize, bodySizeAs, legalCount, isScript, storesBodyAs, lengthOf, headerOf, bodySize, storesBody, appendOf, measureOf, bodyByteOf, pushOf, stored, emptyPartial, nextOf, afterOf, beginsFrame, opcodes}
+use Rattle.frame.specs.Push.{Pushed, frameSizeAs, frameSize, bodySizeAs, legalCount, isScript, storesBodyAs, lengthOf, headerOf, bodySize, storesBody, appendOf, measureOf, bodyByteOf, pushOf, stored, emptyPartial, nextOf, afterOf, beginsFrame, opcodes}
 use Rattle.frame.specs.Reach.{isArray}
 use Rattle.frame.specs.declared.Length.{Length}
 use Rattle.frame.specs.declared.Length.the-variants.{Fixed, Counted, Song, Unknown}
 use Rattle.frame.specs.declared.Partial.{Partial}
-use Rattle.frame.specs.declared.Pushed.{Pushed}
 use Rattle.frame.proofs.FrameTableLaws.{code, fixed-small}
 
 -- ---- header and body: the header is 1 to 3 bytes, the body at most 510, and a body that is stored has room
@@ -122,6 +121,10 @@ header-grown bs n b a =
 pub partial-eq : (l m : List ℕ) (i j a b : ℕ) → l ≡ m → i ≡ j → a ≡ b
     → _≡_ {A = Partial} (record { bytes = l; count = i; remaining = a }) (record { bytes = m; count = j; remaining = b })
 partial-eq l m i j a b p q r = rw (p, q, r)
+
+pub pushed-eq : (p q : Partial) (c d : Bool) → p ≡ q → c ≡ d
+    → _≡_ {A = Pushed} (record { partial = p; complete = c }) (record { partial = q; complete = d })
+pushed-eq p q c d e f = rw (e, f)
 
 -- p with b stored, and n remaining
 abbrev pub grown : Partial → ℕ → ℕ → Partial

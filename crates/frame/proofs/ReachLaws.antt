@@ -16,10 +16,9 @@ use Rattle.wire.specs.Lists.{isZero, isByte, allZero, allBytes}
 use Rattle.wire.proofs.BoolLaws.{is-true, to-T, cond-cases, not-zero, pos-eqb, not-one}
 use Rattle.wire.proofs.ListsLaws.{bytes-set, all-later, zeros-are}
 use Rattle.frame.specs.FrameTable.{dataLength}
-use Rattle.frame.specs.Push.{lengthOf, headerOf, bodySize, storesBody, measureOf, pushOf, emptyPartial, nextOf, afterOf}
+use Rattle.frame.specs.Push.{Pushed, lengthOf, headerOf, bodySize, storesBody, measureOf, pushOf, emptyPartial, nextOf, afterOf}
 use Rattle.frame.specs.Reach.{isArray, unusedZero, remainingFits, bodyStored, headerAlone, bodyBegun, remainingRight, reachableOf}
 use Rattle.frame.specs.declared.Partial.{Partial}
-use Rattle.frame.specs.declared.Pushed.{Pushed}
 use Rattle.frame.proofs.PushLaws.{header-pos, header-le, stored-fits, set-agree, header-agree, body-agree, stores-agree, header-grown, partial-eq, grown, measure-waits, measure-known, push-header, push-stored, push-skipped, next-complete, next-more}
 
 -- ---- `reachableOf` as facts

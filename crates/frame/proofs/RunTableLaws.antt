@@ -16,13 +16,12 @@ use Rattle.wire.specs.Lists.{all, allFrom}
 use Rattle.wire.proofs.BoolLaws.{implied, pos-eqb, one-or-less, leb-pred}
 use Rattle.wire.proofs.ListsLaws.{from, byte-at}
 use Rattle.frame.specs.FrameTable.{dataLength, headerSize}
-use Rattle.frame.specs.Push.{bodySizeAs, lengthOf, headerOf, bodySize, measureOf, pushOf, emptyPartial, nextOf, beginsFrame, opcodes}
+use Rattle.frame.specs.Push.{Pushed, bodySizeAs, lengthOf, headerOf, bodySize, measureOf, pushOf, emptyPartial, nextOf, beginsFrame, opcodes}
 use Rattle.frame.specs.Reach.{reachableOf}
 use Rattle.frame.specs.RunTable.{runTable, waits, rowRuns}
 use Rattle.frame.specs.declared.Length.{Length}
 use Rattle.frame.specs.declared.Length.the-variants.{Fixed, Counted, Song, Unknown}
 use Rattle.frame.specs.declared.Partial.{Partial}
-use Rattle.frame.specs.declared.Pushed.{Pushed}
 use Rattle.frame.proofs.PushLaws.{header-le, body-le, opcode-set, length-set, grown, measure-waits, measure-known, push-header, push-body, next-more, next-last, next-remaining}
 use Rattle.frame.proofs.ReachLaws.{Stage, in-header, storing, skipping, places-of, stage-of, Position, at-start, past-opcode, in-body, position-of, next-reachable}
 

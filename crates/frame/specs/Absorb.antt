@@ -1,32 +1,46 @@
--- Several bytes of one frame, taken at once: what they leave is what they leave one by one.
+-- Several bytes of one frame, taken at once.
 -- Assumes nothing.
 use mathlib.Core.Path.{_≡_}
-use mathlib.Core.Bool.{false, cond}
+use mathlib.Core.Bool.{Bool, false, cond, _&&_}
 use mathlib.Core.List.{List, [], _∷_}
-use Prim.Native.Nat.{ℕ, min}
-use lib.Dec.{eqb}
+use Prim.Native.Nat.{ℕ, _+_, _-_, _≤_, _<_, min}
+use lib.Dec.{T, leb, eqb}
 use lib.ListN.{length, take}
 use Rattle.wire.specs.Lists.{snoc}
-use Rattle.frame.specs.Push.{pushOf, nextOf}
+use Rattle.wire.specs.Buffer.{placed}
+use Rattle.frame.specs.Push.{Pushed, storesBody, pushOf}
+use Rattle.frame.specs.Reach.{reachableOf}
 use Rattle.frame.specs.declared.Partial.{Partial}
-use Rattle.frame.specs.declared.Pushed.{Pushed}
 use Rattle.frame.specs.declared.Absorbed.{Absorbed}
 
--- several bytes, pushed one after the other: what the last of them leaves; of none, the frame as it is
-abbrev pub pushAll : Partial → List ℕ → Pushed
-pushAll p [] = record { partial = p; complete = false }
-pushAll p (b ∷ []) = pushOf p b
-pushAll p (b ∷ (c ∷ bs)) = pushAll (nextOf p b) (c ∷ bs)
+-- what is left, and how many bytes were taken
+abbrev pub counted : Pushed → ℕ → Absorbed
+counted x n = record { partial = x .partial; complete = x .complete; count = n }
 
--- how many bytes of a slice surely belong to one frame: one while its length is not known, and then those that remain, or as many as there are
-abbrev pub absorbs : Partial → List ℕ → ℕ
-absorbs p bs = cond (eqb (p .remaining) 0) 1 (min (p .remaining) (length bs))
+-- whether n bytes of the body are stored: where the body is, and there is room for all of them
+abbrev pub keeps : Partial → ℕ → Bool
+keeps p n = storesBody (p .bytes) && (leb n 35 && leb (p .count) (35 - n))
 
--- what they leave, and their number
+-- what they leave, at most as many as remain
+abbrev pub bodyOf : Partial → List ℕ → Pushed
+bodyOf p bs =
+    record {
+      partial =
+          record {
+            bytes = cond (keeps p (length bs)) (placed bs (p .count) (p .bytes)) (p .bytes);
+            count = cond (keeps p (length bs)) (p .count + length bs) (p .count);
+            remaining = p .remaining - length bs;
+          };
+      complete = eqb (p .remaining) (length bs);
+    }
+
+-- what is taken of a slice: one byte while the length is not known, and then those that remain, or
+-- as many as there are
 unfoldable pub absorbOf : Partial → List ℕ → Absorbed
-absorbOf p bs =
-    let x = pushAll p (take (absorbs p bs) bs) in
-    record { partial = x .partial; complete = x .complete; count = absorbs p bs }
+absorbOf p [] = record { partial = p; complete = false; count = 0 }
+absorbOf p (b ∷ bs) =
+    let n = min (p .remaining) (length (b ∷ bs)) in
+    cond (eqb (p .remaining) 0) (counted (pushOf p b) 1) (counted (bodyOf p (take n (b ∷ bs))) n)
 
 -- ---- one by one
 
@@ -43,3 +57,10 @@ pub record Steps (p : Partial) (bs : List ℕ) (r : Absorbed) : Type 0 where
   pub taken : take (r .count) bs ≡ snoc front last
   pub waits : Waits p front before
   pub ends : pushOf before last ≡ record { partial = r .partial; complete = r .complete }
+
+-- THEOREM: bytes taken at once
+pub record TakenAtOnce : Type 0 where
+  -- they leave a reachable frame as they do one by one
+  pub steps : (p : Partial) (bs : List ℕ) → T (reachableOf p) → 0 < length bs → Steps p bs (absorbOf p bs)
+  -- of every frame, reachable or not: at least one is taken, and no more than there are
+  pub some : (p : Partial) (bs : List ℕ) → 0 < length bs → (1 ≤ absorbOf p bs .count) × (absorbOf p bs .count ≤ length bs)

@@ -11,7 +11,6 @@ use Rattle.frame.specs.FrameTable.{dataLength, dataBytes, headerSize}
 use Rattle.frame.specs.declared.Length.{Length}
 use Rattle.frame.specs.declared.Length.the-variants.{Fixed, Counted, Song, Unknown}
 use Rattle.frame.specs.declared.Partial.{Partial}
-use Rattle.frame.specs.declared.Pushed.{Pushed}
 
 -- ---- the parts of a frame, by its first bytes
 
@@ -55,6 +54,11 @@ abbrev pub storesBody : List ℕ → Bool
 storesBody bytes = storesBodyAs (lengthOf bytes) bytes
 
 -- ---- a byte
+
+-- what a byte leaves; complete where it was the frame's last
+pub record Pushed : Type 0 where
+  pub partial : Partial
+  pub complete : Bool
 
 -- the frame with one byte more; a full one, which no list of bytes leaves, stays as it is
 abbrev pub appendOf : Partial → ℕ → Partial

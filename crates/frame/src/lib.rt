@@ -12,12 +12,9 @@
 // Proved (specs/Cut.antt): whatever the data bytes are, none is read as an opcode, and the byte after them is; so of 511 bytes 128 the
 // last is read as one, and 511 is the least such number. The cut knows nothing of modes, nor of whether a command will be refused.
 ghost use mathlib.Core.Path.{_≡_};
-ghost use mathlib.Core.Bool.{true};
-ghost use Prim.Native.Nat.{_<_};
-ghost use lib.ListN.{length};
 ghost use Rattle.frame.specs.FrameTable.{dataLength, headerSize};
-ghost use Rattle.frame.specs.Push.{bodySizeAs, storesBodyAs, appendOf, measureOf, pushOf, emptyPartial, nextOf};
-ghost use Rattle.frame.specs.Absorb.{absorbOf};
+ghost use Rattle.frame.specs.Push.{bodySizeAs, storesBodyAs, appendOf, measureOf, emptyPartial};
+ghost use Rattle.frame.specs.Absorb.{counted, absorbOf};
 ghost use Rattle.frame.specs.Reach.{reachableOf};
 
 // The most notes of a song, and the most ids of a list, that are legal.
@@ -42,12 +39,6 @@ pub struct Partial {
     pub bytes: [u8; 35],
     pub count: usize,
     pub remaining: usize,
-}
-
-// What a byte leaves; complete where it was the frame's last.
-pub struct Pushed {
-    pub partial: Partial,
-    pub complete: bool,
 }
 
 // What the bytes of a slice leave; count of them are taken, and complete where the last of these was the frame's last.
@@ -109,89 +100,24 @@ fn stores_body(length: Length, bytes: [u8; 35]) -> bool
     }
 }
 
-// The frame with one byte more; a full one, which no list of bytes leaves, stays as it is.
-fn append(p: Partial, b: u8) -> Partial
-    ensures { λ r. ⌜ r ≡ appendOf p b ⌝ }
-{
-    let at = p.count;
-    if 35 <= at {
-        return p;
-    }
-    let mut q = p;
-    q.bytes[at] = b;
-    q.count = at + 1;
-    q
-}
-
-// A frame whose length was not known: what remains, if its header is complete now.
-fn measure(p: Partial) -> Pushed
-    ensures { λ r. ⌜ r ≡ measureOf p ⌝ }
-{
-    let bytes = p.bytes;
-    let length = data_length(bytes[0]);
-    if p.count < header_size(length) {
-        return Pushed {
-            partial: p,
-            complete: false,
-        };
-    }
-    let remaining = body_size(length, bytes);
-    let count = p.count;
-    Pushed {
-        partial: Partial {
-            bytes,
-            count,
-            remaining,
-        },
-        complete: remaining == 0,
-    }
-}
-
-// One byte, taken by the partial frame; a complete frame comes back as it is stored, with 0 remaining. What is given on a frame that
-// is not reachable is free in the papers: it is what the same definition says there (specs/Cut.antt, EveryPush).
-pub fn push(p: Partial, b: u8) -> Pushed
-    ensures { λ r. ⌜ r ≡ pushOf p b ⌝ }
-{
-    let remaining = p.remaining;
-    if remaining == 0 {
-        return measure(append(p, b));
-    }
-    let bytes = p.bytes;
-    let length = data_length(bytes[0]);
-    let q = if stores_body(length, bytes) {
-        append(p, b)
-    } else {
-        p
-    };
-    let bytes = q.bytes;
-    let count = q.count;
-    Pushed {
-        partial: Partial {
-            bytes,
-            count,
-            remaining: remaining - 1,
-        },
-        complete: remaining == 1,
-    }
-}
-
-// A byte while the length is not known, which has a place. It is pushed, and written out here so that the frame is not moved from one function to the next.
+// A byte while the length is not known: it is stored, and where the header is complete now, its body
+// remains, or the frame ends. A full frame, which no list of bytes leaves, stores nothing more.
 fn absorb_one(p: Partial, b: u8) -> Absorbed
-    requires { ⌜ p .remaining ≡ 0 ⌝ }
-    requires { ⌜ p .count < 35 ⌝ }
-    ensures { λ r. ⌜ r ≡ record { partial = pushOf p b .partial; complete = pushOf p b .complete; count = 1 } ⌝ }
+    ensures { λ r. ⌜ r ≡ counted (measureOf (appendOf p b)) 1 ⌝ }
 {
     let mut bytes = p.bytes;
-    let at = p.count;
-    bytes[at] = b;
-    let count = at + 1;
+    let mut count = p.count;
+    if count < 35 {
+        bytes[count] = b;
+        count += 1;
+    }
     let length = data_length(bytes[0]);
     if count < header_size(length) {
         return Absorbed {
             partial: Partial {
                 bytes,
                 count,
-                remaining: 0,
+                remaining: p.remaining,
             },
             complete: false,
             count: 1,
@@ -209,13 +135,20 @@ fn absorb_one(p: Partial, b: u8) -> Absorbed
     }
 }
 
-// As many bytes at once as surely belong to one frame: one while its length is not known, and then those that remain. The crates above see to it that the
-// frame is reachable and that there is a byte: it is no call of the board.
+// As many bytes at once as surely belong to one frame: one while its length is not known, and then
+// those that remain; of an empty slice none. On a reachable frame they leave what they leave one by
+// one (specs/Absorb.antt, Steps). What is given on another is free in the papers: the same number is
+// taken, and bytes of a body for which there is no room are not stored.
 pub fn absorb(p: Partial, bytes: &[u8]) -> Absorbed
-    requires { ⌜ reachableOf p ≡ true ⌝ }
-    requires { ⌜ 0 < length (now bytes) ⌝ }
     ensures { λ r. ⌜ r ≡ absorbOf p (now (bytes .entry)) ⌝ }
 {
+    if bytes.len() == 0 {
+        return Absorbed {
+            partial: p,
+            complete: false,
+            count: 0,
+        };
+    }
     let remaining = p.remaining;
     if remaining == 0 {
         return absorb_one(p, bytes[0]);
@@ -228,7 +161,7 @@ pub fn absorb(p: Partial, bytes: &[u8]) -> Absorbed
     let mut held = p.bytes;
     let mut count = p.count;
     let length = data_length(held[0]);
-    if stores_body(length, held) {
+    if stores_body(length, held) && (n <= 35 && count <= 35 - n) {
         count = wire::put_part(bytes, 0, n, &mut held, count);
     }
     Absorbed {
@@ -251,17 +184,6 @@ pub fn empty() -> Partial
         count: 0,
         remaining: 0,
     }
-}
-
-// What is left between two bytes: a frame that the byte completes is done with.
-pub fn next(p: Partial, b: u8) -> Partial
-    ensures { λ r. ⌜ r ≡ nextOf p b ⌝ }
-{
-    let pushed = push(p, b);
-    if pushed.complete {
-        return empty();
-    }
-    pushed.partial
 }
 
 // Whether the frame table can leave this frame between two bytes.

@@ -4,14 +4,13 @@ use mathlib.Core.Path.{_≡_, refl, sym, ap, ap₂, subst, _∙_}
 use mathlib.Core.Bool.{true, false}
 use Prim.Native.Nat.{ℕ, _+_, _-_, _≤_, _<_}
 use native.Mathlib.Omega.{arith}
-use lib.ListN.{length, getD, take, drop, length-drop}
+use lib.ListN.{length, getD, take, drop}
 use mir.Syntax.{w64}
 use mir.Val.{Fits}
 use borrow.Author.Needs.{needs}
 use borrow.Author.Tests.{not-true, not-false}
-use Rattle.wire.proofs.BoolLaws.{is-true, to-T, cond-false}
+use Rattle.wire.proofs.BoolLaws.{to-T, cond-false}
 use Rattle.frame.specs.Push.{emptyPartial}
-use Rattle.frame.specs.Reach.{reachableOf}
 use Rattle.frame.specs.Absorb.{absorbOf}
 use Rattle.frame.specs.declared.Absorbed.{Absorbed}
 use Rattle.frame.specs.declared.Partial.{Partial}
@@ -26,7 +25,6 @@ use Rattle.board.specs.Judge.{effectIn, judgeOf}
 use Rattle.board.specs.Calls.{performed, runOf, ranAs}
 use Rattle.board.proofs.OutcomeLaws.{MetSent, sent-number}
 use Rattle.board.proofs.JudgeLaws.{judge-legal}
-use Rattle.board.proofs.CallsLaws.{accepted-reachable}
 use Rattle.board.proofs.RunLaws.{ran-met, ran-gives, sent-of, ran-refused, ran-done, Going, rest-is, going-start, going-end, absorbed-inside, absorbed-on, absorbed-done}
 use Rattle.board.proofs.run.Statement.{statement}
 use Rattle.board.proofs.run.Tie as tie
@@ -93,14 +91,6 @@ add-read c =
     let l : Fits w64 (length (start (c .before) .args .bytes .now)) = search needs in
     let x : at-loop (c .before) .loop .read + c .before .absorb .result .count < 18446744073709551616 = omega arith in
     omega arith
-
-absorb-requires : tie.Need-absorb-requires Inv-loop μ-loop
-absorb-requires c κs =
-    let loop = c .before .before .loop in
-    let a = c .before .before .before .before .before .before .before .before .args in
-    let e = ap length (rest-is (a .bytes .now) (loop .read)) ∙ length-drop (loop .read) (a .bytes .now) in
-    let h = more (c .before) in
-    (is-true (reachableOf (loop .partial)) (accepted-reachable (withPartial (loop .partial) (a .state)) (loop .inv .1 .accepted)), omega arith)
 
 loop-less : tie.Need-loop-less Inv-loop μ-loop
 loop-less c = let i = inside (c .before .before .before) in let h = more (c .before .before .before .before .before) in omega arith
@@ -218,7 +208,7 @@ run-spec =
     (λ c. let h = more c in omega arith)
     (λ c. let h = more c in omega arith)
     (λ c. search needs)
-    absorb-requires
+    (λ c κs. search needs)
     add-read
     (λ c κs. search needs)
     (λ c κs. search needs)
