@@ -24,7 +24,7 @@ use Rattle.frame.proofs.RunTableLaws.{rows-run, steps, opcode-at, remai
 
 pub cut-in-numbers : CutInNumbers
 unfolding dataLength bodySizeAs nextOf
-cut-in-numbers = record { cases-right = tt; counts-right = tt }
+cut-in-numbers = record { cases-right = tt; opcodes-right = tt; counts-right = tt }
 
 pub cut-by-table : CutByTable
 cut-by-table =

@@ -1,10 +1,12 @@
--- The cut in numbers: worked cases, and what every count byte announces. What they expect is written out, and cites no table and no rule.
+-- The cut in numbers: worked cases, and what every opcode and every count byte announces. What they
+-- expect is written out, and cites no table and no rule.
 -- Assumes nothing.
-use mathlib.Core.Bool.{Bool, true, false, Bool·beq, _&&_}
-use mathlib.Core.List.{List, [], _∷_}
-use Prim.Native.Nat.{ℕ, _*_}
-use lib.Dec.{eqb}
-use Rattle.wire.specs.Lists.{all, sameList}
+use mathlib.Core.Bool.{Bool, true, false, cond, Bool·beq, _&&_, _||_}
+use mathlib.Core.List.{List, [], _∷_, _++_}
+use Prim.Native.Nat.{ℕ, _-_, _*_}
+use lib.Dec.{leb, eqb}
+use lib.ListN.{getD, replicate}
+use Rattle.wire.specs.Lists.{all, among, snoc, sameList}
 use Rattle.frame.specs.Push.{pushOf, stored, emptyPartial, afterOf}
 use Rattle.frame.specs.declared.Partial.{Partial}
 
@@ -23,6 +25,10 @@ ends bs b kept = record { before = bs; last = b; kept = kept; remaining = 0; com
 abbrev goesOn : List ℕ → ℕ → List ℕ → ℕ → FrameCase
 goesOn bs b kept n = record { before = bs; last = b; kept = kept; remaining = n; complete = false }
 
+-- a byte after which the length is known
+abbrev leaves : List ℕ → ℕ → List ℕ → ℕ → FrameCase
+leaves bs b kept n = record { before = bs; last = b; kept = kept; remaining = n; complete = eqb n 0 }
+
 abbrev pub frameCases : List FrameCase
 frameCases =
     -- no data bytes; unknown opcodes
@@ -36,6 +42,11 @@ frameCases =
     -- W3: a Drive is kept whole
     ∷ goesOn (137 ∷ []) 255 (137 ∷ 255 ∷ []) 3
     ∷ ends (137 ∷ 255 ∷ 56 ∷ 1 ∷ []) 244 (137 ∷ 255 ∷ 56 ∷ 1 ∷ 244 ∷ [])
+    -- 156 and 157 are read past at their last byte, and kept whole until then
+    ∷ goesOn (156 ∷ []) 1 (156 ∷ 1 ∷ []) 1
+    ∷ ends (156 ∷ 1 ∷ []) 2 (156 ∷ 1 ∷ 2 ∷ [])
+    ∷ goesOn (157 ∷ []) 1 (157 ∷ 1 ∷ []) 1
+    ∷ ends (157 ∷ 1 ∷ []) 2 (157 ∷ 1 ∷ 2 ∷ [])
     -- W8, W9: 140 0 0 ends at its third byte; 140 0 255 has 510 remaining
     ∷ goesOn [] 140 (140 ∷ []) 0
     ∷ goesOn (140 ∷ []) 0 (140 ∷ 0 ∷ []) 0
@@ -44,16 +55,10 @@ frameCases =
     -- W10: a count of 0 ends the frame
     ∷ goesOn [] 149 (149 ∷ []) 0
     ∷ ends (149 ∷ []) 0 (149 ∷ 0 ∷ [])
-    -- illegal data under a legal count are kept; past the count nothing is
+    -- illegal data under a legal count are kept
     ∷ goesOn (140 ∷ 16 ∷ 16 ∷ []) 60 (140 ∷ 16 ∷ 16 ∷ 60 ∷ []) 31
-    ∷ goesOn (140 ∷ 0 ∷ 17 ∷ []) 60 (140 ∷ 0 ∷ 17 ∷ []) 33
     ∷ goesOn (148 ∷ 16 ∷ []) 99 (148 ∷ 16 ∷ 99 ∷ []) 15
-    ∷ goesOn (148 ∷ 17 ∷ []) 7 (148 ∷ 17 ∷ []) 16
     ∷ goesOn (149 ∷ 16 ∷ []) 99 (149 ∷ 16 ∷ 99 ∷ []) 15
-    ∷ goesOn (149 ∷ 17 ∷ []) 7 (149 ∷ 17 ∷ []) 16
-    -- a 152 keeps its count alone, whatever that is
-    ∷ goesOn (152 ∷ 2 ∷ []) 128 (152 ∷ 2 ∷ []) 1
-    ∷ ends (152 ∷ 1 ∷ []) 128 (152 ∷ 1 ∷ [])
     ∷ []
 
 abbrev samePartial : Partial → Partial → Bool
@@ -64,8 +69,31 @@ caseRight c =
     let r = pushOf (afterOf emptyPartial (c .before)) (c .last) in
     samePartial (r .partial) (stored (c .kept) (c .remaining)) && Bool·beq (r .complete) (c .complete)
 
--- after 148, 149 or 152 and a count n, n bytes remain; after 140 0 n, twice as many
+-- how many bytes remain after an opcode alone; for 140, 148, 149 and 152 a count is still to come
+abbrev remainAfter : List ℕ
+remainAfter =
+    replicate 128 0
+    -- 128 to 137
+    ++ (0 ∷ 1 ∷ 0 ∷ 0 ∷ 0 ∷ 0 ∷ 0 ∷ 0 ∷ 1 ∷ 4
+    -- 138 to 147
+    ∷ 1 ∷ 3 ∷ 0 ∷ 1 ∷ 1 ∷ 0 ∷ 3 ∷ 4 ∷ 0 ∷ 1
+    -- 148 to 158, and none after the others
+    ∷ 0 ∷ 0 ∷ 1 ∷ 1 ∷ 0 ∷ 0 ∷ 0 ∷ 1 ∷ 2 ∷ 2 ∷ 1 ∷ [])
+
+abbrev pub opcodeRight : ℕ → Bool
+opcodeRight op =
+    let n = getD remainAfter op 0 in
+    caseRight (cond (among (140 ∷ 148 ∷ 149 ∷ 152 ∷ []) op) goesOn leaves [] op (op ∷ []) n)
+
+-- after these bytes a count leaves n to come, and the first of those is stored or not
+abbrev announces : List ℕ → ℕ → ℕ → Bool → Bool
+announces bs count n stores =
+    let header = snoc bs count in
+    caseRight (leaves bs count header n)
+    && (eqb n 0 || caseRight (leaves header 7 (cond stores (snoc header 7) header) (n - 1)))
+
+-- a count is that of the bytes to come, in a 140 half of it; they are stored up to 16, in a 152 never
 abbrev pub countRight : ℕ → Bool
 countRight n =
-    all (λ op. eqb (afterOf emptyPartial (op ∷ n ∷ []) .remaining) n) (148 ∷ 149 ∷ 152 ∷ [])
-    && eqb (afterOf emptyPartial (140 ∷ 0 ∷ n ∷ []) .remaining) (2 * n)
+    all (λ op. announces (op ∷ []) n n (leb n 16)) (148 ∷ 149 ∷ [])
+    && (announces (152 ∷ []) n n false && announces (140 ∷ 0 ∷ []) n (2 * n) (leb n 16))

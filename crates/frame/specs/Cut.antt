@@ -11,12 +11,13 @@ use Rattle.frame.specs.FrameTable.{dataLength, dataBytes}
 use Rattle.frame.specs.Push.{headerOf, frameSize, storesBody, pushOf, stored, emptyPartial, nextOf, afterOf, beginsFrame, opcodes, completed}
 use Rattle.frame.specs.Reach.{isArray, reachableOf}
 use Rattle.frame.specs.RunTable.{runTable, waits, rowRuns}
-use Rattle.frame.specs.Cases.{frameCases, caseRight, countRight}
+use Rattle.frame.specs.Cases.{frameCases, caseRight, opcodeRight, countRight}
 use Rattle.frame.specs.declared.Partial.{Partial}
 
 -- THEOREM: the cut in numbers
 pub record CutInNumbers : Type 0 where
   pub cases-right : T (all caseRight frameCases)
+  pub opcodes-right : T (allFrom opcodeRight 0 256)
   pub counts-right : T (allFrom countRight 0 256)
 
 -- THEOREM: a frame is an opcode and as many data bytes as the frame table says, whatever they are
