@@ -28,7 +28,7 @@ use Rattle.command.specs.declared.Message.{Message}
 use Rattle.command.proofs.VariantLaws.{every}
 use Rattle.command.proofs.LayoutLaws.{stored-none, small, says}
 use Rattle.command.proofs.CommandTableLaws.{no-other-mode, by-opcode, alike, demo-tested, drive-legal, direct-legal, duties-legal, leds-legal, song-is, query-legal, stream-legal, unused-free}
-use Rattle.command.proofs.RoundTripLaws.{frame-bytes, written-complete, written-read, spelled, head-kept, rewritten}
+use Rattle.command.proofs.RoundTripLaws.{frame-bytes, read-same, written-complete, written-read, spelled, head-kept, rewritten}
 
 pub commands-in-numbers : CommandsInNumbers
 unfolding flatMap read16Of replyOf sizeOf groupOf listableOf streamableOf encodeOf commandOf decodeOf isIn isLegal rowOf allowedOf legalOf
@@ -236,5 +236,6 @@ round-trip =
     record {
       written-complete = written-complete;
       written-read = written-read;
+      read-same = λ m s. read-same m (s .array) (s .unused);
       read-written = read-written;
     }

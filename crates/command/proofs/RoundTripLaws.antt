@@ -11,7 +11,7 @@ use lib.ListN.{length, getD, take, drop, replicate, length-drop, take-append-dro
 use lib.Seq.{length-take-le, getD-take, take-at, take-append-seam, drop-append-seam}
 use mir.Facts.{and-yes, yes-and}
 use borrow.Author.Tests.{le-leb, eqb-true}
-use Rattle.wire.specs.Lists.{span, within, snoc, padded, isByte, allBytes}
+use Rattle.wire.specs.Lists.{span, within, snoc, padded, isByte, allBytes, byteArray}
 use Rattle.wire.specs.Signed.{bits8Of, read8Of}
 use Rattle.wire.specs.Sixteen.{be16, read16Of}
 use Rattle.wire.proofs.BoolLaws.{to-T}
@@ -29,7 +29,7 @@ use Rattle.frame.proofs.CutProved.{complete-exactly, stored-as-sent}
 use Rattle.packet.specs.Answers.{listableOf, streamableOf}
 use Rattle.command.specs.Layout.{valueOf, allSent, formOf, opcodeOf, refusalOf, storedCount, payloadSize, headOf, payloadIn, encodeOf, Reading, readings, otherwise, commandFor, commandOf, decodeOf}
 use Rattle.command.specs.CommandTable.{_to_, upTo, isLegal, allLegal, noRow, rowOf, legalOf}
-use Rattle.command.specs.Commands.{message, messageAt, Sendable}
+use Rattle.command.specs.Commands.{message, unusedZero, messageAt, readAs}
 use Rattle.command.specs.declared.Command.{Command}
 use Rattle.command.specs.declared.Message.{Message}
 use Rattle.command.specs.declared.Command.the-variants.{Start, Baud, Control, Safe, Full, Power, Demo, Spot, Cover, Dock, Drive, Direct, Drivers, Duties, Leds, Outputs, Infrared, Song, Play, Sensors, QueryList, Stream, Pause, Unknown, NotOffered}
@@ -131,43 +131,40 @@ module _ (m : Message) (legal : legalOf m ≡ true) where
       (sent-bytes (formOf (m .command) .items) (numbers-fit m (to-T (legalOf m) legal))))
       (all-take isByte (payloadSize (m .command)) (m .payload) t)
 
-module _ (m : Message) (sendable : Sendable m) where
-  array : T (eqb (length (m .payload)) 32) × T (allBytes (m .payload))
-  array = and-yes (eqb (length (m .payload)) 32) (allBytes (m .payload)) (sendable .array)
-
-  laid-out : Laid (m .command)
-  laid-out = laid-of m (sendable .legal)
-
+module _ (m : Message) (array : T (byteArray 32 (m .payload))) where
   is-32 : length (m .payload) ≡ 32
-  is-32 = eqb→eq (length (m .payload)) 32 (array .0)
-
-  frame-sized : length (encodeOf m) ≡ frameSize (encodeOf m)
-  unfolding encodeOf
-  frame-sized = encode-length m is-32 ∙ sym (laid-out .size (payloadIn m))
-
-  frame-stored : storesBody (encodeOf m) ≡ true
-  unfolding encodeOf
-  frame-stored = laid-out .stores (payloadIn m)
+  is-32 = eqb→eq (length (m .payload)) 32 (and-yes (eqb (length (m .payload)) 32) (allBytes (m .payload)) array .0)
 
   in-use : length (payloadIn m) ≡ payloadSize (m .command)
   in-use = let s = small (m .command) in length-take-le (payloadSize (m .command)) (m .payload) (omega (arith, is-32, s .1 .0))
 
-  payload-whole : padded 32 (payloadIn m) ≡ m .payload
-  payload-whole =
+  pub read-same : T (unusedZero m) → readAs m ≡ m
+  read-same t =
       let e : 32 - length (payloadIn m) ≡ length (m .payload) - payloadSize (m .command) = omega (arith, is-32, in-use) in
-      ap (λ (n : ℕ). payloadIn m ++ replicate n 0) e ∙ sym (zeros-from (m .payload) (payloadSize (m .command)) (sendable .unused))
+      ap (message (m .command))
+      (ap (λ (n : ℕ). payloadIn m ++ replicate n 0) e ∙ sym (zeros-from (m .payload) (payloadSize (m .command)) t))
 
-  frame-says : decodeOf (padded 35 (encodeOf m)) ≡ m
+module _ (m : Message) (legal : legalOf m ≡ true) (array : T (byteArray 32 (m .payload))) where
+  frame-sized : length (encodeOf m) ≡ frameSize (encodeOf m)
+  unfolding encodeOf
+  frame-sized = encode-length m (is-32 m array) ∙ sym (laid-of m legal .size (payloadIn m))
+
+  frame-stored : storesBody (encodeOf m) ≡ true
+  unfolding encodeOf
+  frame-stored = laid-of m legal .stores (payloadIn m)
+
+  frame-says : decodeOf (padded 35 (encodeOf m)) ≡ readAs m
   unfolding encodeOf
   frame-says =
       let zeros : List ℕ = replicate (35 - length (encodeOf m)) 0 in
-      let used : take (payloadSize (m .command)) (payloadIn m ++ zeros) ≡ payloadIn m = take-at (payloadIn m) zeros (payloadSize (m .command)) in-use in
-      ap decodeOf (append-assoc (headOf (m .command)) (payloadIn m) zeros) ∙ decode-laid (m .command) laid-out (payloadIn m ++ zeros)
-      ∙ ap (λ (l : List ℕ). message (m .command) (padded 32 l)) used ∙ ap (message (m .command)) payload-whole
+      ap decodeOf (append-assoc (headOf (m .command)) (payloadIn m) zeros) ∙ decode-laid (m .command) (laid-of m legal) (payloadIn m ++ zeros)
+      ∙ ap (λ (l : List ℕ). message (m .command) (padded 32 l)) (take-at (payloadIn m) zeros (payloadSize (m .command)) (in-use m array))
 
   module _ (bs : List ℕ) (b : ℕ) (is : encodeOf m ≡ snoc bs b) where
     before-last : T (allBytes bs)
-    before-last = first-bytes bs b (subst (λ (l : List ℕ). T (allBytes l)) is (frame-bytes m (sendable .legal) (array .1)))
+    before-last =
+        let t = and-yes (eqb (length (m .payload)) 32) (allBytes (m .payload)) array .1 in
+        first-bytes bs b (subst (λ (l : List ℕ). T (allBytes l)) is (frame-bytes m legal t))
 
     sized-as : length (snoc bs b) ≡ frameSize (snoc bs b)
     sized-as = subst (λ (l : List ℕ). length l ≡ frameSize l) is frame-sized
@@ -175,7 +172,7 @@ module _ (m : Message) (sendable : Sendable m) where
     pub written-complete : CompleteAtLast bs b
     written-complete = complete-exactly .sized-completes bs b before-last sized-as
 
-    pub written-read : messageAt bs b ≡ m
+    pub written-read : messageAt bs b ≡ readAs m
     written-read =
         let e : keptOf (snoc bs b) ≡ encodeOf m = ap keptOf (sym is) ∙ kept-all (encodeOf m) frame-stored in
         at-last bs b before-last sized-as ∙ ap (λ (l : List ℕ). decodeOf (padded 35 l)) e ∙ frame-says

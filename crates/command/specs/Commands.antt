@@ -16,7 +16,7 @@ use Rattle.frame.specs.FrameTable.{dataLength, inNoRow}
 use Rattle.frame.specs.Push.{pushOf, emptyPartial, afterOf}
 use Rattle.frame.specs.Cut.{CompleteAtLast}
 use Rattle.packet.specs.Answers.{listableOf, streamableOf}
-use Rattle.command.specs.Layout.{opcodeOf, refusalOf, payloadSize, encodeOf, decodeOf}
+use Rattle.command.specs.Layout.{opcodeOf, refusalOf, payloadSize, payloadIn, encodeOf, decodeOf}
 use Rattle.command.specs.CommandTable.{commandTable, allowedOf, legalOf, writeReply}
 use Rattle.command.specs.Cases.{longestSong, frameCases, otherCases, rowOpcodes, refusalRight, modeRight, byteCases, byteRight, dataCases, dataRight}
 use Rattle.command.specs.declared.Command.{Command}
@@ -143,11 +143,20 @@ pub record Sendable (m : Message) : Type 0 where
   pub array : T (byteArray 32 (m .payload))
   pub unused : T (unusedZero m)
 
+-- a message as it is read back: with 0 in the places that its command does not use
+abbrev pub readAs : Message → Message
+readAs m = message (m .command) (padded 32 (payloadIn m))
+
 -- THEOREM: what our writer writes is read back, and what is read is written back
 pub record RoundTrip : Type 0 where
-  -- the frame, pushed byte by byte from nothing, is complete at its last byte and not before, and says the message
-  pub written-complete : (m : Message) → Sendable m → (bs : List ℕ) (b : ℕ) → encodeOf m ≡ snoc bs b → CompleteAtLast bs b
-  pub written-read : (m : Message) → Sendable m → (bs : List ℕ) (b : ℕ) → encodeOf m ≡ snoc bs b → messageAt bs b ≡ m
+  -- the frame of any legal message, pushed byte by byte from nothing, is complete at its last byte
+  -- and not before, and says the message
+  pub written-complete : (m : Message) → legalOf m ≡ true → T (byteArray 32 (m .payload))
+      → (bs : List ℕ) (b : ℕ) → encodeOf m ≡ snoc bs b → CompleteAtLast bs b
+  pub written-read : (m : Message) → legalOf m ≡ true → T (byteArray 32 (m .payload))
+      → (bs : List ℕ) (b : ℕ) → encodeOf m ≡ snoc bs b → messageAt bs b ≡ readAs m
+  -- itself, where these places are 0 already
+  pub read-same : (m : Message) → Sendable m → readAs m ≡ m
   -- bytes that are complete at the last one and not before, with legal data, are what the writer writes of their message, given room
   pub read-written : (bs : List ℕ) (b : ℕ) → T (allBytes (snoc bs b)) → CompleteAtLast bs b → legalOf (messageAt bs b) ≡ true
       → (room : ℕ) → length (snoc bs b) ≤ room → writeReply (messageAt bs b) room ≡ wrote (snoc bs b)
