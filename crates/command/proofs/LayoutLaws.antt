@@ -1,14 +1,15 @@
 -- Laws of a command as bytes.
 -- Assumes nothing.
 use mathlib.Core.Path.{_≡_, refl, sym, ap, ap₂, _∙_}
-use mathlib.Core.Bool.{Bool, true, false, cond}
+use mathlib.Core.Bool.{Bool, true, false, cond, _&&_}
 use mathlib.Core.List.{List, [], _∷_, map}
 use mathlib.Core.Logic.{⊎-elim}
-use Prim.Native.Nat.{ℕ, _+_, _-_, _≤_, _<_}
+use Prim.Native.Nat.{ℕ, _+_, _-_, _*_, _≤_, _<_}
 use native.Mathlib.Omega.{arith}
-use lib.Dec.{T, leb, eqb, leb→le}
+use lib.Dec.{leb, eqb, leb→le}
 use lib.ListN.{length, getD, take, drop, replicate, length-append}
 use lib.Seq.{length-take-le, take-append-seam}
+use mir.Facts.{and-yes}
 use borrow.Author.Tests.{le-leb, lt-leb}
 use Rattle.wire.specs.Lists.{among, within, padded}
 use Rattle.wire.specs.Buffer.{Put}
@@ -16,9 +17,10 @@ use Rattle.wire.proofs.BoolLaws.{le-or-lt}
 use Rattle.wire.proofs.BufferLaws.{overwrite-zeros, put-start, put-then}
 use Rattle.command.specs.Layout.{storedCount, payloadSize, headOf, headed, payloadIn, encodeOf, Reading, readings, otherwise, commandFor, commandOf, decodeOf}
 use Rattle.command.specs.declared.Command.{Command}
-use Rattle.command.specs.declared.Command.the-variants.{Start, Baud, Control, Safe, Full, Power, Demo, Spot, Cover, Dock, Drive, Direct, Drivers, Duties, Leds, Outputs, Infrared, Song, Play, Sensors, QueryList, Stream, Pause, Unknown, NotOffered}
+use Rattle.command.specs.declared.Command.the-variants.{Unknown, NotOffered}
 use Rattle.command.specs.declared.Message.{Message}
 use Rattle.command.specs.declared.Head.{Head}
+use Rattle.command.proofs.VariantLaws.{Passes, every}
 
 -- ---- storedCount
 
@@ -36,36 +38,29 @@ stored-le n = ⊎-elim (λ (h : n ≤ 16). rw (stored-all n h) h) (λ (h : 16 < 
 abbrev Small : Command → Type 0
 Small c = (length (headOf c) ≤ 5) × ((payloadSize c ≤ 32) × (length (headOf c) + payloadSize c ≤ 35))
 
--- h bytes, and nothing after them
-bare : (h : ℕ) → T (leb h 5) → (h ≤ 5) × ((0 ≤ 32) × (h + 0 ≤ 35))
-bare h t = let u = leb→le h 5 t in (u, (omega arith, omega arith))
+abbrev smallTest : Command → Bool
+smallTest c = leb (length (headOf c)) 5 && (leb (payloadSize c) 32 && leb (length (headOf c) + payloadSize c) 35)
+
+-- computed for each variant, but for the three that count
+all-small : Passes smallTest 0 25
+all-small a b d v w =
+    let x = stored-le a in
+    let y = stored-le b in
+    simp (
+      le-leb (2 * storedCount b) 32 (omega arith),
+      le-leb (3 + 2 * storedCount b) 35 (omega arith),
+      le-leb (storedCount a) 32 (omega arith),
+      le-leb (2 + storedCount a) 35 (omega arith),
+    )
+    tt
 
 pub small : (c : Command) → Small c
-small Start = bare 1 tt
-small (Baud code) = bare 2 tt
-small Control = bare 1 tt
-small Safe = bare 1 tt
-small Full = bare 1 tt
-small Power = bare 1 tt
-small (Demo number) = bare 2 tt
-small Spot = bare 1 tt
-small Cover = bare 1 tt
-small Dock = bare 1 tt
-small (Drive velocity radius) = bare 5 tt
-small (Direct right left) = bare 5 tt
-small (Drivers bits) = bare 2 tt
-small (Duties driver2 driver1 driver0) = bare 4 tt
-small (Leds bits color intensity) = bare 4 tt
-small (Outputs bits) = bare 2 tt
-small (Infrared code) = bare 2 tt
-small (Song number notes) = let s = stored-le notes in (omega arith, (omega arith, omega arith))
-small (Play number) = bare 2 tt
-small (Sensors id) = bare 2 tt
-small (QueryList ids) = let s = stored-le ids in (omega arith, (omega arith, omega arith))
-small (Stream ids) = let s = stored-le ids in (omega arith, (omega arith, omega arith))
-small (Pause on) = bare 2 tt
-small (Unknown op) = bare 1 tt
-small (NotOffered op) = bare 1 tt
+small c =
+    let h = length (headOf c) in
+    let n = payloadSize c in
+    let s = and-yes (leb h 5) (leb n 32 && leb (h + n) 35) (every smallTest all-small c) in
+    let u = and-yes (leb n 32) (leb (h + n) 35) (s .1) in
+    (leb→le h 5 (s .0), (leb→le n 32 (u .0), leb→le (h + n) 35 (u .1)))
 
 -- ---- headOf: an arm that knows the command
 
