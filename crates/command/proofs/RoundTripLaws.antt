@@ -12,8 +12,6 @@ use lib.Seq.{length-take-le, getD-take, take-at, take-append-seam, drop-append-s
 use mir.Facts.{and-yes, yes-and}
 use borrow.Author.Tests.{le-leb, eqb-true}
 use Rattle.wire.specs.Lists.{span, within, snoc, padded, isByte, allBytes, byteArray}
-use Rattle.wire.specs.Signed.{bits8Of, read8Of}
-use Rattle.wire.specs.Sixteen.{be16, read16Of}
 use Rattle.wire.proofs.BoolLaws.{to-T}
 use Rattle.wire.proofs.ListsLaws.{take-span, all-append, all-take, getD-zeros, byte-at, zeros-from}
 use Rattle.wire.proofs.SignedLaws.{round-trip-bits}
@@ -200,12 +198,12 @@ module _ (bytes : List ℕ) (t : T (allBytes bytes)) where
   abbrev told : Reading → Command
   told r = r .says (d 1) (d 2) (d 3) (d 4)
 
-  record Spells (r : Reading) : Type 0 where
-    it : Spelled bytes (r .opcode) (told r)
+  -- its opcode, its head's length and its numbers as they are sent; and what these must be
+  abbrev toldAs : Reading → List ℕ
+  toldAs r = opcodeOf (told r) ∷ length (headOf (told r)) ∷ allSent (formOf (told r) .items)
 
-  abbrev Each : List Reading → Type 0
-  Each [] = Unit {0}
-  Each (r ∷ rs) = Spells r × Each rs
+  abbrev dueAs : Reading → List ℕ
+  dueAs r = r .opcode ∷ least (dataLength (r .opcode)) ∷ map (λ i. getD bytes i 0) (span 1 (length (allSent (formOf (told r) .items))))
 
   otherwise-spelled : (op : ℕ) → Spelled bytes op (otherwise op)
   otherwise-spelled op = go (within 152 158 op) refl
@@ -214,62 +212,32 @@ module _ (bytes : List ℕ) (t : T (allBytes bytes)) where
       go true e = simp e (record { opcode = refl; sent = refl; shortest = λ z. absurd (omega (arith, z)) })
       go false e = simp e (record { opcode = refl; sent = refl; shortest = λ z. absurd (omega (arith, z)) })
 
-  look-one : (r : Reading) (c : Command) (op : ℕ) (e : Bool) → eqb op (r .opcode) ≡ e → Spells r → Spelled bytes op c
+  look-one : (r : Reading) (c : Command) (op : ℕ) (e : Bool) → eqb op (r .opcode) ≡ e → toldAs r ≡ dueAs r → Spelled bytes op c
       → Spelled bytes op (cond (eqb op (r .opcode)) (told r) c)
-  look-one r c op true e s u = simp e (subst (λ (k : ℕ). Spelled bytes k (told r)) (sym (eqb-true op (r .opcode) e)) (s .it))
+  look-one r c op true e s u =
+      simp e
+      (subst (λ (k : ℕ). Spelled bytes k (told r)) (sym (eqb-true op (r .opcode) e))
+      (record {
+        opcode = ap (λ (l : List ℕ). getD l 0 0) s;
+        sent = ap (λ (l : List ℕ). drop 2 l) s;
+        shortest = λ z. ap (λ (l : List ℕ). getD l 1 0) s;
+      }))
   look-one r c op false e s u = simp e u
 
-  look-spelled : (rs : List Reading) (op : ℕ) → Each rs → Spelled bytes op (commandFor rs op (d 1) (d 2) (d 3) (d 4))
-  look-spelled [] op s = otherwise-spelled op
-  look-spelled (r ∷ rs) op s = look-one r (commandFor rs op (d 1) (d 2) (d 3) (d 4)) op (eqb op (r .opcode)) refl (s .0) (look-spelled rs op (s .1))
+  look-spelled : (rs : List Reading) (op : ℕ) → map toldAs rs ≡ map dueAs rs → Spelled bytes op (commandFor rs op (d 1) (d 2) (d 3) (d 4))
+  look-spelled [] op e = otherwise-spelled op
+  look-spelled (r ∷ rs) op e =
+      look-one r (commandFor rs op (d 1) (d 2) (d 3) (d 4)) op (eqb op (r .opcode)) refl (ap (λ (l : List (List ℕ)). getD l 0 []) e)
+      (look-spelled rs op (ap (λ (l : List (List ℕ)). drop 1 l) e))
 
-  plain : {r : Reading} → opcodeOf (told r) ≡ r .opcode
-      → allSent (formOf (told r) .items) ≡ map (λ i. getD bytes i 0) (span 1 (length (allSent (formOf (told r) .items))))
-      → length (headOf (told r)) ≡ least (dataLength (r .opcode)) → Spells r
-  plain p q s = record { it = record { opcode = p; sent = q; shortest = λ z. s } }
-
-  -- a signed byte
-  signed-byte : bits8Of (read8Of (d 1)) ∷ [] ≡ d 1 ∷ []
-  signed-byte = ap (λ (n : ℕ). n ∷ []) (round-trip-bits 128 .written-read (d 1) (byte-at bytes t 1))
-
-  -- two sixteen-bit numbers
-  words : be16 (read16Of (d 1) (d 2)) ++ (be16 (read16Of (d 3) (d 4)) ++ []) ≡ d 1 ∷ d 2 ∷ d 3 ∷ d 4 ∷ []
-  words =
-      ap₂ (λ (k l : List ℕ). k ++ (l ++ [])) (round-trip16 .written-read (d 1) (d 2) (byte-at bytes t 1) (byte-at bytes t 2))
-      (round-trip16 .written-read (d 3) (d 4) (byte-at bytes t 3) (byte-at bytes t 4))
-
-  -- in the order of the readings, five at a time
-  abbrev five : ℕ → List Reading
-  five k = take 5 (drop (5 * k) readings)
-
-  join : (rs ss : List Reading) → Each rs → Each ss → Each (rs ++ ss)
-  join [] ss p q = q
-  join (r ∷ rs) ss p q = (p .0, join rs ss (p .1) q)
-
-  spelled-0 : Each (five 0)
+  -- computed, but for the signed numbers
+  all-spelled : map toldAs readings ≡ map dueAs readings
   unfolding dataLength
-  spelled-0 = (plain refl refl refl, (plain refl refl refl, (plain refl refl refl, (plain refl refl refl, (plain refl refl refl, tt)))))
-
-  spelled-1 : Each (five 1)
-  unfolding dataLength
-  spelled-1 = (plain refl refl refl, (plain refl signed-byte refl, (plain refl refl refl, (plain refl refl refl, (plain refl refl refl, tt)))))
-
-  spelled-2 : Each (five 2)
-  unfolding dataLength
-  spelled-2 = (plain refl words refl, (plain refl words refl, (plain refl refl refl, (plain refl refl refl, (plain refl refl refl, tt)))))
-
-  spelled-3 : Each (five 3)
-  unfolding dataLength
-  spelled-3 = (plain refl refl refl, (plain refl refl refl, (plain refl refl refl, (plain refl refl refl, (plain refl refl refl, tt)))))
-
-  spelled-4 : Each (five 4)
-  unfolding dataLength
-  spelled-4 = (plain refl refl refl, (plain refl refl refl, (plain refl refl refl, tt)))
-
-  all-spelled : Each readings
   all-spelled =
-      join (five 0) (drop 5 readings) spelled-0
-      (join (five 1) (drop 10 readings) spelled-1 (join (five 2) (drop 15 readings) spelled-2 (join (five 3) (five 4) spelled-3 spelled-4)))
+      let e = round-trip-bits 128 .written-read (d 1) (byte-at bytes t 1) in
+      let f = round-trip16 .written-read (d 1) (d 2) (byte-at bytes t 1) (byte-at bytes t 2) in
+      let g = round-trip16 .written-read (d 3) (d 4) (byte-at bytes t 3) (byte-at bytes t 4) in
+      cc
 
   pub spelled : Spelled bytes (d 0) (commandOf bytes)
   unfolding commandOf
