@@ -7,9 +7,9 @@ use mathlib.Core.Logic.{⊎-elim}
 use Prim.Native.Nat.{ℕ, zero, suc, _-_, _≤_, _<_}
 use native.Mathlib.Nat.{eq-zero-or-pos}
 use native.Mathlib.Omega.{arith}
-use lib.Dec.{T, leb, eqb, eqb→eq, ltb→lt}
+use lib.Dec.{T, leb, eqb, leb→le, eqb→eq, ltb→lt}
 use lib.ListN.{length, getD, take, replicate, length-replicate, length-map, List·getD-map}
-use mir.Facts.{and-yes}
+use mir.Facts.{T-not, and-yes}
 use borrow.Author.Tests.{le-leb, lt-leb, eqb-true, eq-eqb, ne-eqb}
 use Rattle.wire.specs.Lists.{all, upToTrue, isByte, allBytes}
 use Rattle.wire.proofs.BoolLaws.{is-true, to-T, both, le-or-lt}
@@ -25,16 +25,19 @@ use Rattle.frame.proofs.ReachLaws.{empty-is}
 use Rattle.frame.proofs.RunTableLaws.{waits-le}
 use Rattle.frame.proofs.CutProved.{run-of-128s, remaining-needed}
 use Rattle.command.specs.Layout.{commandOf, decodeOf}
-use Rattle.command.specs.CommandTable.{legalOf}
+use Rattle.packet.specs.SizeTable.{sizeOf, groupOf}
+use Rattle.packet.specs.Answers.{listableOf, streamableOf}
+use Rattle.command.specs.CommandTable.{isIn, isLegal, rowOf, allowedOf, legalOf}
 use Rattle.command.proofs.CommandsProved.{data-column}
-use Rattle.state.specs.State.{powerOn, motorsOff, withPartial, toPassive}
-use Rattle.state.specs.Accepted.{acceptedOf}
+use Rattle.state.specs.State.{motorsOff, withPartial, toPassive}
+use Rattle.state.specs.Accepted.{modeNamed, orderNamed, offUnlessDriven, wheelsLegal, dutiesLegal, outputsLegal, baudLegal, selectedLegal, streamLegal, lengthLegal, playingSet, notesZero, idsZero, motorsTyped, keptTyped, songTyped, songsTyped, streamTyped, typed, acceptedOf}
 use Rattle.state.specs.declared.State.{State}
-use Rattle.state.proofs.RecordProved.{power-on-right, stop-right, accepted-exactly, accepted-stays}
+use Rattle.state.proofs.RecordProved.{stop-right, accepted-exactly, accepted-stays}
 use Rattle.board.specs.Outcome.{Outcome, gives}
 use Rattle.board.specs.Judge.{judgeOf}
-use Rattle.board.specs.Calls.{byteOf, Performed, feed, Call, byte, run, perform, after, bytesIn, bytesRead, Reading, reading, outcomeAt, readingsOf, readingsIn, readings, numbers, idle}
-use Rattle.board.specs.Demand3.{noReading, lastNumber, CountsAgree, IdleTells, Told, All128, longest, calls128, Demand3}
+use Rattle.board.specs.Calls.{fedOf, byteOf, Performed, feed, runOf, Call, byte, run, Board, perform, afterBy, after, bytesIn, bytesBy, bytesRead, Reading, reading, outcomeAt, readingsOf, readingsIn, readings, numbers, idle}
+use Rattle.board.specs.Shown.{doesNothing, firstByteOnly}
+use Rattle.board.specs.Demand3.{noReading, lastNumber, CountsAgree, IdleTells, Told, All128, EndsIdle, longest, calls128, Demand3}
 use Rattle.board.proofs.JudgeLaws.{judge-illegal, judge-start}
 use Rattle.board.proofs.CallsLaws.{accepted-reachable, messageOf, byte-is, byte-waits, byte-judged, byte-next, byte-ends, takes-accepted, byte-accepted, feed-is, run-is}
 use Rattle.board.proofs.ListsOfCallsLaws.{Fed, none, more, last, reads-one, first-fed, bytesAt, same-bytes, same-count, Quiet, same, stopped, silent, quiet-partial, read-bytes, read-count, Course, over, quiet, reads, course, cut}
@@ -265,14 +268,14 @@ module _ (s : State) (t : T (acceptedOf s)) where
   reachable : T (reachableOf (s .partial))
   reachable = accepted-reachable s t
 
-  reads-128 : (cs : List Call) → All128 s cs → Reads128 (readings s cs)
+  reads-128 : (cs : List Call) → All128 (bytesRead s cs) → Reads128 (readings s cs)
   reads-128 cs h = subst (λ (l : List ℕ). T (all is128 l)) (sym (read-bytes cs s)) h
 
-  idle-once : (cs : List Call) → All128 s cs → waits (s .partial) < length (bytesRead s cs) → T (idle (after s cs))
+  idle-once : (cs : List Call) → All128 (bytesRead s cs) → waits (s .partial) < length (bytesRead s cs) → T (idle (after s cs))
   idle-once cs h l =
       idle-so (after s cs) (becomes-idle (after s cs) s (readings s cs) (course cs s) t (reads-128 cs h) (omega (arith, read-count cs s)))
 
-  module _ (cs : List Call) (h : All128 s cs) where
+  module _ (cs : List Call) (h : All128 (bytesRead s cs)) where
     -- the reading of byte k
     abbrev at : ℕ → Reading
     at k = getD (readings s cs) k noReading
@@ -313,8 +316,10 @@ module _ (s : State) (t : T (acceptedOf s)) where
           idle-after = λ first rest e l.
               let all = subst (λ (bs : List ℕ). T (all is128 bs)) (ap (bytesRead s) e ∙ read-append first rest s) h in
               idle-once first (all-front is128 (bytesRead s first) (bytesRead (after s first) rest) all) l;
-          idle-by-511 = λ l. idle-once cs h (omega (arith, waits-le (s .partial) reachable));
         }
+
+ends-idle : EndsIdle perform
+ends-idle s t cs h l = idle-once s t cs h (omega (arith, waits-le (s .partial) (accepted-reachable s t)))
 
 -- ---- the least
 
@@ -375,12 +380,28 @@ more-than-510 s m e cs t =
 
 -- ---- the record from which all are needed
 
+-- two runs over 511 bytes 128: a board that does nothing reads 510 of them, and then again
+abbrev two-runs : List Call
+two-runs = replicate 2 (run (replicate 511 128) (replicate 40 0) [])
+
+-- by this board they read 128s alone, at least 511, and do not end idle
+abbrev strays : Board → Bool
+strays board =
+    all is128 (bytesBy board longest two-runs)
+    && (leb 511 (length (bytesBy board longest two-runs)) && not (idle (afterBy board longest two-runs)))
+
+computed : T (acceptedOf longest) × (T (strays doesNothing) × T (strays firstByteOnly))
+unfolding dataLength bodySizeAs reachableOf sizeOf groupOf listableOf streamableOf commandOf decodeOf isIn isLegal rowOf allowedOf legalOf motorsOff modeNamed orderNamed offUnlessDriven wheelsLegal dutiesLegal outputsLegal baudLegal selectedLegal streamLegal lengthLegal playingSet notesZero idsZero motorsTyped keptTyped songTyped songsTyped streamTyped typed acceptedOf judgeOf fedOf byteOf runOf idle
+computed = (tt, (tt, tt))
+
 longest-accepted : T (acceptedOf longest)
-longest-accepted =
-    let s = withPartial (longSong 0 510) powerOn in
-    accepted-stays s
-    (accepted-stays powerOn (power-on-right .power-on-accepted) .partial-kept (longSong 0 510) (remaining-needed .song-reachable 0 510 (omega arith) (omega arith) (omega arith)))
-    .mode-kept 3 (omega arith) (λ (h : 3 ≤ 1). absurd (omega arith))
+longest-accepted = computed .0
+
+never-idle : (board : Board) → T (strays board) → EndsIdle board → ⊥
+never-idle board t h =
+    let a = and-yes (all is128 (bytesBy board longest two-runs)) _ t in
+    let b = and-yes (leb 511 (length (bytesBy board longest two-runs))) _ (a .1) in
+    T-not (idle (afterBy board longest two-runs)) (h longest longest-accepted two-runs (a .0) (leb→le 511 _ (b .0))) (b .1)
 
 -- each of n bytes 128 is read
 calls-read : (image buffer : List ℕ) (n : ℕ) (s : State) → T (acceptedOf s) → bytesRead s (calls128 n image buffer) ≡ replicate n 128
@@ -395,9 +416,9 @@ calls-length image buffer n = ap length (calls-read image buffer n longest longe
 
 with-511 : (image buffer : List ℕ) → T (idle (after longest (calls128 511 image buffer)))
 with-511 image buffer =
-    told longest longest-accepted (calls128 511 image buffer)
-    (subst (λ (l : List ℕ). T (all is128 l)) (sym (calls-read image buffer 511 longest longest-accepted)) tt)
-    .idle-by-511 (omega (arith, calls-length image buffer 511))
+    ends-idle longest longest-accepted (calls128 511 image buffer)
+    (subst All128 (sym (calls-read image buffer 511 longest longest-accepted)) tt)
+    (omega (arith, calls-length image buffer 511))
 
 not-with-510 : (image buffer : List ℕ) → idle (after longest (calls128 510 image buffer)) ≡ false
 not-with-510 image buffer = go (idle (after longest (calls128 510 image buffer))) refl
@@ -415,6 +436,9 @@ demand-3 =
       idle-tells = idle-tells;
       counts-agree = counts-agree;
       cut = cut;
+      ends-idle = ends-idle;
+      does-nothing-not = never-idle doesNothing (computed .1 .0);
+      first-byte-not = never-idle firstByteOnly (computed .1 .1);
       told = told;
       least = λ s m e cs t. let l = more-than-510 s m e cs t in omega arith;
       longest-accepted = longest-accepted;

@@ -136,8 +136,12 @@ pub data Call : Type 0 where
   tick : (image buffer : List ℕ) → Call
   songEnd : Call
 
+-- what a call does, for any record and call
+abbrev pub Board : Type 0
+Board = State → Call → Performed
+
 -- by the definitions that the contracts cite
-abbrev pub perform : State → Call → Performed
+abbrev pub perform : Board
 perform s (byte b image buffer) = reads (byteOf s b image (length buffer))
 perform s (run bs image buffer) = runOf s bs image (length buffer)
 perform s (report drop cliff charger) = readsNone (reportOf s drop cliff charger)
@@ -145,9 +149,12 @@ perform s (tick image buffer) = readsNone (tickOf s image (length buffer))
 perform s songEnd = readsNone (songEndOf s)
 
 -- each call gets the record that the one before it left
+abbrev pub afterBy : Board → State → List Call → State
+afterBy board s [] = s
+afterBy board s (c ∷ cs) = afterBy board (board s c .outcome .state) cs
+
 abbrev pub after : State → List Call → State
-after s [] = s
-after s (c ∷ cs) = after (perform s c .outcome .state) cs
+after = afterBy perform
 
 -- the bytes that a call may read
 abbrev pub bytesOf : Call → List ℕ
@@ -162,9 +169,12 @@ abbrev pub bytesIn : State → Call → List ℕ
 bytesIn s c = take (perform s c .read) (bytesOf c)
 
 -- and those that a list of calls reads, in order
+abbrev pub bytesBy : Board → State → List Call → List ℕ
+bytesBy board s [] = []
+bytesBy board s (c ∷ cs) = take (board s c .read) (bytesOf c) ++ bytesBy board (board s c .outcome .state) cs
+
 abbrev pub bytesRead : State → List Call → List ℕ
-bytesRead s [] = []
-bytesRead s (c ∷ cs) = bytesIn s c ++ bytesRead (perform s c .outcome .state) cs
+bytesRead = bytesBy perform
 
 -- ---- one by one
 

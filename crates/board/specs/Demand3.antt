@@ -12,11 +12,13 @@ use Rattle.frame.specs.Push.{pushOf, emptyPartial, afterOf, completed}
 use Rattle.frame.specs.RunTable.{waits}
 use Rattle.frame.specs.Cut.{longSong}
 use Rattle.command.specs.Layout.{decodeOf}
-use Rattle.state.specs.State.{full, powerOn, withMode, withPartial}
+use Rattle.state.specs.State.{powerOn, withPartial}
+use Rattle.state.specs.Cases.{moving}
 use Rattle.state.specs.Accepted.{acceptedOf}
 use Rattle.state.specs.declared.State.{State}
 use Rattle.board.specs.Judge.{judgeOf}
-use Rattle.board.specs.Calls.{Call, byte, run, perform, after, bytesIn, bytesRead, Reading, reading, outcomeAt, readingsIn, readings, numbers, opcodesRead, idle}
+use Rattle.board.specs.Calls.{Call, byte, run, Board, perform, afterBy, after, bytesIn, bytesBy, bytesRead, Reading, reading, outcomeAt, readingsIn, readings, numbers, opcodesRead, idle}
+use Rattle.board.specs.Shown.{doesNothing, firstByteOnly}
 
 -- the last number of a list, and 9 for none
 abbrev pub lastNumber : List ℕ → ℕ
@@ -61,16 +63,21 @@ pub record Told (s : State) (cs : List Call) : Type 0 where
   pub then-zero : (k : ℕ) → waits (s .partial) ≤ k → k < length (bytesRead s cs) → getD (numbers s cs) k 9 ≡ 0
   -- from the named byte on the board is idle after every call
   pub idle-after : (done rest : List Call) → cs ≡ done ++ rest → waits (s .partial) < length (bytesRead s done) → T (idle (after s done))
-  -- so after 511 bytes, whatever was held
-  pub idle-by-511 : 511 ≤ length (bytesRead s cs) → T (idle (after s cs))
 
 -- each byte that is read is 128; what a run leaves unread may be anything
-abbrev pub All128 : State → List Call → Type 0
-All128 s cs = T (all (λ b. eqb b 128) (bytesRead s cs))
+abbrev pub All128 : List ℕ → Type 0
+All128 bs = T (all (λ b. eqb b 128) bs)
 
--- in Full, with 510 bytes remaining
+-- of a board: from every accepted record, every list of calls by which it reads 128s alone, and at
+-- least 511 of them, ends idle
+abbrev pub EndsIdle : Board → Type 0
+EndsIdle board =
+    (s : State) → T (acceptedOf s) → (cs : List Call) → All128 (bytesBy board s cs)
+    → 511 ≤ length (bytesBy board s cs) → T (idle (afterBy board s cs))
+
+-- moving in Full, with 510 bytes remaining
 abbrev pub longest : State
-longest = withMode full (withPartial (longSong 0 510) powerOn)
+longest = withPartial (longSong 0 510) moving
 
 -- what idle says
 pub record IdleTells (s : State) : Type 0 where
@@ -96,8 +103,12 @@ pub record Demand3 : Type 0 where
   pub counts-agree : CountsAgree
   -- the cut never depends on the mode, nor on a refusal: calls that read no byte leave the held frame alone, and bytes of any values are cut as `next` does
   pub cut : (s : State) (cs : List Call) → after s cs .partial ≡ afterOf (s .partial) (bytesRead s cs)
-  -- enough
-  pub told : (s : State) → T (acceptedOf s) → (cs : List Call) → All128 s cs → Told s cs
+  -- enough; and a board that does nothing, or whose run feeds its first byte alone, does not pass
+  pub ends-idle : EndsIdle perform
+  pub does-nothing-not : EndsIdle doesNothing → ⊥
+  pub first-byte-not : EndsIdle firstByteOnly → ⊥
+  -- byte by byte
+  pub told : (s : State) → T (acceptedOf s) → (cs : List Call) → All128 (bytesRead s cs) → Told s cs
   -- least: of every record in Full with 510 bytes remaining, bad ones too, and bytes of any values
   pub least : (s : State) → s .mode ≡ 3 → s .partial .remaining ≡ 510 → (cs : List Call) → T (idle (after s cs)) → 511 ≤ length (bytesRead s cs)
   -- such a record is accepted; from it 511 bytes 128 end idle, and 510 do not

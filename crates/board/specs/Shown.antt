@@ -14,7 +14,7 @@ use Rattle.state.specs.State.{withMode, withPartial, withWheels, withList, with
 use Rattle.state.specs.Same.{sameState}
 use Rattle.state.specs.declared.State.{State}
 use Rattle.board.specs.Outcome.{gives}
-use Rattle.board.specs.Calls.{Performed, performed, runOf, Call, byte, run, report, tick, songEnd, perform}
+use Rattle.board.specs.Calls.{Performed, performed, runOf, Call, byte, run, report, tick, songEnd, Board, perform}
 use Rattle.board.specs.EffectTable.{telling, sampleImage}
 
 -- ---- rows
@@ -37,10 +37,6 @@ pub record Row : Type 0 where
 
 abbrev from : State → List Step → State → Row
 from s steps t = record { start = s; steps = steps; end = t }
-
--- what a call does, for any record and call
-abbrev pub Board : Type 0
-Board = State → Call → Performed
 
 abbrev stepRight : Step → Performed → Bool
 stepRight x p = eqb (p .outcome .number) (x .number) && (eqb (p .read) (x .read) && sameList (p .outcome .answer) (x .answer))
