@@ -8,7 +8,7 @@ use native.Mathlib.Omega.{arith}
 use lib.Dec.{T, leb, eqb}
 use lib.ListN.{length}
 use mir.Facts.{and-yes}
-use borrow.Author.Tests.{eq-eqb, ne-eqb, leb-true, eqb-true, eqb-false}
+use borrow.Author.Tests.{eq-eqb, ne-eqb, leb-true, leb-false, eqb-true, eqb-false, not-false}
 use Rattle.wire.proofs.BoolLaws.{is-true, to-T, cond-true, cond-false, cond-is}
 use Rattle.frame.specs.Push.{Pushed, pushOf, emptyPartial, nextOf}
 use Rattle.frame.specs.Reach.{isArray, reachableOf}
@@ -154,14 +154,16 @@ module _ (s : State) (drop cliff charger : Bool) (t : T (acceptedOf s)) where
 
 -- ---- a tick
 
-pub tick-is : (P : Outcome → Type 0) (s : State) (image : List ℕ) (room : ℕ) → (acceptedOf s ≡ false → P (gives 8 s)) → P (gives 3 s) → P (gives 0 s)
-    → (length (chunkNow s image) ≤ room → P (answers (chunkNow s image) s)) → P (gives 7 s) → P (tickOf s image room)
+pub tick-is : (P : Outcome → Type 0) (s : State) (image : List ℕ) (room : ℕ) → (acceptedOf s ≡ false → P (gives 8 s)) → (s .mode ≡ off → P (gives 3 s))
+    → P (gives 0 s) → (length (chunkNow s image) ≤ room → P (answers (chunkNow s image) s))
+    → ((s .mode ≡ off → ⊥) → streams (s .stream) ≡ true → room < length (chunkNow s image) → P (gives 7 s)) → P (tickOf s image room)
 unfolding tickOf
 tick-is P s image room f g h i j =
     checked-is P s f
-    (λ t. cond-is P (eqb (s .mode) off) (λ d. g)
+    (λ t. cond-is P (eqb (s .mode) off) (λ d. g (eqb-true (s .mode) off d))
     (λ d. cond-is P (not (streams (s .stream))) (λ e. h)
-    (λ e. cond-is P (leb (length (chunkNow s image)) room) (λ l. i (leb-true (length (chunkNow s image)) room l)) (λ l. j))))
+    (λ e. cond-is P (leb (length (chunkNow s image)) room) (λ l. i (leb-true (length (chunkNow s image)) room l))
+    (λ l. j (eqb-false (s .mode) off d) (not-false (streams (s .stream)) e) (leb-false (length (chunkNow s image)) room l)))))
 
 module _ (s : State) (image : List ℕ) (room : ℕ) where
   pub tick-bad : acceptedOf s ≡ false → tickOf s image room ≡ gives 8 s

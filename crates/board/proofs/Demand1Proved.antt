@@ -79,8 +79,8 @@ told s (run bs image buffer) = run-told image (length buffer) s bs
 told s (report dropped cliff charger) =
     report-is (Told (0 ∷ 8 ∷ []) s 0) s dropped cliff charger (λ d. same-told 8 tt) (λ t. same-told 0 tt) (λ t. other-told 0 tt tt)
 told s (tick image buffer) =
-    tick-is (Told (0 ∷ 3 ∷ 7 ∷ 8 ∷ []) s (length buffer)) s image (length buffer) (λ d. same-told 8 tt) (same-told 3 tt) (same-told 0 tt)
-    (λ l. record { numbered = tt; leaves = λ g h. refl; silent = λ h. absurd (h refl); fits = l }) (same-told 7 tt)
+    tick-is (Told (0 ∷ 3 ∷ 7 ∷ 8 ∷ []) s (length buffer)) s image (length buffer) (λ d. same-told 8 tt) (λ e. same-told 3 tt) (same-told 0 tt)
+    (λ l. record { numbered = tt; leaves = λ g h. refl; silent = λ h. absurd (h refl); fits = l }) (λ m e l. same-told 7 tt)
 told s songEnd = song-end-is (Told (0 ∷ 8 ∷ []) s 0) s (λ d. same-told 8 tt) (λ t. other-told 0 tt tt)
 
 -- ---- 8
@@ -120,8 +120,8 @@ stays s (report dropped cliff charger) t u =
     report-is Stays s dropped cliff charger (λ d. absurd (subst T d t)) (λ v. gives-stays 0 s tt t)
     (λ v. gives-stays 0 (toPassive s) tt (accepted-stays s t .passive-kept))
 stays s (tick image buffer) t u =
-    tick-is Stays s image (length buffer) (λ d. absurd (subst T d t)) (gives-stays 3 s tt t) (gives-stays 0 s tt t) (λ l. (λ (e : 0 ≡ 8). omega arith, t))
-    (gives-stays 7 s tt t)
+    tick-is Stays s image (length buffer) (λ d. absurd (subst T d t)) (λ e. gives-stays 3 s tt t) (gives-stays 0 s tt t) (λ l. (λ (e : 0 ≡ 8). omega arith, t))
+    (λ m e l. gives-stays 7 s tt t)
 stays s songEnd t u = song-end-is Stays s (λ d. absurd (subst T d t)) (λ v. gives-stays 0 (withPlaying 0 s) tt (accepted-stays s t .silent-kept))
 
 -- ---- 9

@@ -34,33 +34,40 @@ use Rattle.board.proofs.LegalLaws.{pause-on}
 
 -- ---- effectOf
 
+-- a command by what it needs
+pub data Kind (p : List ℕ) : Command → Type 0 where
+  plain : {c : Command} → effectOf c p .needs ≡ nothing → Kind p c
+  play : (n : ℕ) → Kind p (cmd.Play n)
+  sensors : (id : ℕ) → Kind p (cmd.Sensors id)
+  query : (n : ℕ) → Kind p (cmd.QueryList n)
+
 -- no command touches the held frame
-effect-partial : (c : Command) (p : List ℕ) (s : State) → effectOf c p .sets s .partial ≡ s .partial
-effect-partial cmd.Start p s = refl
-effect-partial (cmd.Baud code) p s = refl
-effect-partial cmd.Control p s = refl
-effect-partial cmd.Safe p s = refl
-effect-partial cmd.Full p s = refl
-effect-partial cmd.Power p s = refl
-effect-partial (cmd.Demo number) p s = refl
-effect-partial cmd.Spot p s = refl
-effect-partial cmd.Cover p s = refl
-effect-partial cmd.Dock p s = refl
-effect-partial (cmd.Drive velocity radius) p s = refl
-effect-partial (cmd.Direct right left) p s = refl
-effect-partial (cmd.Drivers bits) p s = refl
-effect-partial (cmd.Duties driver2 driver1 driver0) p s = refl
-effect-partial (cmd.Leds bits color intensity) p s = refl
-effect-partial (cmd.Outputs bits) p s = refl
-effect-partial (cmd.Infrared code) p s = refl
-effect-partial (cmd.Song number notes) p s = refl
-effect-partial (cmd.Play number) p s = refl
-effect-partial (cmd.Sensors id) p s = refl
-effect-partial (cmd.QueryList ids) p s = refl
-effect-partial (cmd.Stream ids) p s = refl
-effect-partial (cmd.Pause on) p s = refl
-effect-partial (cmd.Unknown op) p s = refl
-effect-partial (cmd.NotOffered op) p s = refl
+pub kind : (p : List ℕ) (s : State) (c : Command) → Kind p c × (effectOf c p .sets s .partial ≡ s .partial)
+kind p s cmd.Start = (plain refl, refl)
+kind p s (cmd.Baud code) = (plain refl, refl)
+kind p s cmd.Control = (plain refl, refl)
+kind p s cmd.Safe = (plain refl, refl)
+kind p s cmd.Full = (plain refl, refl)
+kind p s cmd.Power = (plain refl, refl)
+kind p s (cmd.Demo number) = (plain refl, refl)
+kind p s cmd.Spot = (plain refl, refl)
+kind p s cmd.Cover = (plain refl, refl)
+kind p s cmd.Dock = (plain refl, refl)
+kind p s (cmd.Drive velocity radius) = (plain refl, refl)
+kind p s (cmd.Direct right left) = (plain refl, refl)
+kind p s (cmd.Drivers bits) = (plain refl, refl)
+kind p s (cmd.Duties driver2 driver1 driver0) = (plain refl, refl)
+kind p s (cmd.Leds bits color intensity) = (plain refl, refl)
+kind p s (cmd.Outputs bits) = (plain refl, refl)
+kind p s (cmd.Infrared code) = (plain refl, refl)
+kind p s (cmd.Song number notes) = (plain refl, refl)
+kind p s (cmd.Play number) = (play number, refl)
+kind p s (cmd.Sensors id) = (sensors id, refl)
+kind p s (cmd.QueryList ids) = (query ids, refl)
+kind p s (cmd.Stream ids) = (plain refl, refl)
+kind p s (cmd.Pause on) = (plain refl, refl)
+kind p s (cmd.Unknown op) = (plain refl, refl)
+kind p s (cmd.NotOffered op) = (plain refl, refl)
 
 -- a command whose modes are Safe and Full
 driven : (c : Command) (mode : ℕ) → T (all (ltb 1) (rowOf c .modes)) → T (allowedOf c mode) → 1 < mode
@@ -237,7 +244,7 @@ module _ (s : State) (m : Message) (image : List ℕ) (room : ℕ) where
 
   -- no command touches the held frame
   pub judge-partial : judgeOf s m image room .state .partial ≡ s .partial
-  judge-partial = judge-is (λ (o : Outcome). o .state .partial ≡ s .partial) (λ n a b. refl) (λ d. effect-partial (m .command) (m .payload) s)
+  judge-partial = judge-is (λ (o : Outcome). o .state .partial ≡ s .partial) (λ n a b. refl) (λ d. kind (m .payload) s (m .command) .1)
 
   -- an accepted record stays accepted, where the message is one that is read
   pub judge-accepted : T (acceptedOf s) → T (byteArray 32 (m .payload)) → T (unusedZero m) → T (acceptedOf (judgeOf s m image room .state))
@@ -252,7 +259,7 @@ judge-start s p image room h = simp (sym (from-off (s .mode) (omega arith)) ∙ 
 
 -- ---- judgeOf, test by test
 
-refusal-small : (c : Command) → T (leb (refusalOf c) 2)
+pub refusal-small : (c : Command) → T (leb (refusalOf c) 2)
 refusal-small = every (λ (c : Command). leb (refusalOf c) 2) (λ a b d v w. tt)
 
 as-such : (x : Outcome) (s : State) (n : ℕ) → n ≤ 2 → (n ≡ 0 → ⊥) → cond (eqb n 1) (gives 1 s) (cond (eqb n 2) (gives 2 s) x) ≡ gives n s

@@ -150,7 +150,7 @@ report-quiet s drop cliff charger =
     (λ t. cond-is (Quiet s) (eqb (s .mode) safe && stops) (λ e. stopped (eqb-true (s .mode) safe (both (eqb (s .mode) safe) stops e .0))) (λ e. same))
 
 tick-quiet : (s : State) (image : List ℕ) (room : ℕ) → Quiet s (tickOf s image room .state)
-tick-quiet s image room = tick-is (λ (o : Outcome). Quiet s (o .state)) s image room (λ e. same) same same (λ l. same) same
+tick-quiet s image room = tick-is (λ (o : Outcome). Quiet s (o .state)) s image room (λ e. same) (λ e. same) same (λ l. same) (λ m e l. same)
 
 song-end-quiet : (s : State) → Quiet s (songEndOf s .state)
 song-end-quiet s = song-end-is (λ (o : Outcome). Quiet s (o .state)) s (λ e. same) silent

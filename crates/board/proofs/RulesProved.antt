@@ -1,22 +1,25 @@
 -- The rules, for every record and every value.
 -- Assumes nothing.
-use mathlib.Core.Path.{_≡_, refl, sym, ap, _∙_}
+use mathlib.Core.Path.{_≡_, refl, sym, ap, subst, _∙_}
 use mathlib.Core.Bool.{Bool, true, false, not, cond, _&&_, _||_, Bool·beq, and-false}
 use mathlib.Core.List.{List, [], _∷_}
+use mathlib.Core.Logic.{⊎-elim}
 use Prim.Native.Nat.{ℕ, _≤_, _<_, zero-le}
+use native.Mathlib.Nat.{eq-zero-or-pos}
 use native.Mathlib.Omega.{arith}
-use lib.Dec.{T, leb, eqb, leb·zero}
+use lib.Dec.{T, leb, eqb, leb→le, ltb→lt, leb·zero}
 use lib.IntN.{pos}
 use lib.Signed.{leZ}
 use lib.ListN.{length, take, replicate}
-use borrow.Author.Tests.{le-leb, lt-leb, eq-eqb, ne-eqb}
-use Rattle.wire.specs.Lists.{among}
+use mir.Facts.{and-yes, yes-and}
+use borrow.Author.Tests.{le-leb, lt-leb, eqb-true, eqb-false, eq-eqb, ne-eqb, not-true}
+use Rattle.wire.specs.Lists.{among, isByte, allBytes}
 use Rattle.wire.specs.Signed.{read8Of}
 use Rattle.wire.specs.Sixteen.{minus}
-use Rattle.wire.proofs.BoolLaws.{is-true, beq-eq, pos-eqb, cond-not}
+use Rattle.wire.proofs.BoolLaws.{is-true, both, beq-eq, le-or-lt, pos-eqb, cond-not}
 use Rattle.wire.proofs.ListsLaws.{from}
 use Rattle.frame.specs.FrameTable.{dataLength}
-use Rattle.frame.specs.Push.{bodySizeAs, emptyPartial}
+use Rattle.frame.specs.Push.{bodySizeAs, pushOf, emptyPartial}
 use Rattle.frame.specs.RunTable.{waits}
 use Rattle.frame.specs.Reach.{reachableOf}
 use Rattle.frame.specs.declared.Partial.{Partial}
@@ -29,17 +32,17 @@ use Rattle.command.specs.declared.Command.the-variants as cmd
 use Rattle.command.specs.declared.Message.{Message}
 use Rattle.command.proofs.CommandTableLaws.{alike}
 use Rattle.command.proofs.CommandsProved.{data-column}
-use Rattle.state.specs.State.{isYes, songAt, withPartial, withPlaying, toPassive}
+use Rattle.state.specs.State.{isYes, songAt, withPartial, withSelected, withPlaying, toPassive}
 use Rattle.state.specs.Accepted.{acceptedOf}
 use Rattle.state.specs.declared.State.{State}
 use Rattle.state.proofs.RecordProved.{accepted-exactly, accepted-stays}
-use Rattle.board.specs.Outcome.{Outcome, gives}
+use Rattle.board.specs.Outcome.{Outcome, gives, answers, fitted}
 use Rattle.board.specs.Judge.{nothing, statusOf, effectOf, judgeOf}
-use Rattle.board.specs.Calls.{fedOf, byteOf, reportOf, chunkNow, songEndOf, runOf}
-use Rattle.board.specs.Rules.{Does, EffectColumn, NumberColumn, FittedRight, StatusRight, ByteRight, RunRight, ReportRight, TickRight, demoHeld, demoGives, DemoRight, BackingRight, RulesRight}
+use Rattle.board.specs.Calls.{fedOf, byteOf, reportOf, chunkNow, songEndOf, Performed, runOf, Call, byte, run, report, tick, songEnd, perform, bytesOf}
+use Rattle.board.specs.Rules.{Does, EffectColumn, Judged, Refused, unknown, not-offered, wrong-mode, not-legal, no-song, busy, packet-long, list-long, NumberColumn, FittedRight, StatusRight, ByteRight, RunRight, ReportRight, TickRight, Case, waiting, judged, none, more, last, in-off, chunk-long, demoHeld, demoGives, DemoRight, BackingRight, RulesRight}
 use Rattle.board.proofs.BackingLaws.{byDirect, of-none, of-drive, of-direct, exchanged, by-backing, by-slower, agree}
-use Rattle.board.proofs.JudgeLaws.{judge-mode, judge-data}
-use Rattle.board.proofs.CallsLaws.{byte-eight, byte-accepted, tick-off, tick-silent, tick-chunk}
+use Rattle.board.proofs.JudgeLaws.{Kind, plain, play, sensors, query, kind, refusal-small, judge-mode, judge-data}
+use Rattle.board.proofs.CallsLaws.{messageOf, byte-is, byte-eight, byte-ends, byte-accepted, report-is, tick-is, tick-off, tick-silent, tick-chunk, song-end-is}
 
 -- ---- commands
 
@@ -74,23 +77,80 @@ effect-column p =
       pause-on = does (cmd.Pause 1) p refl refl;
     }
 
-number-column : (s : State) (image : List ℕ) (room : ℕ) → NumberColumn s image room
-unfolding judgeOf
-number-column s image room =
-    record {
-      unknown = λ m e. rw e refl;
-      not-offered = λ m e. rw e refl;
-      wrong-mode = λ m e a. judge-mode s m image room e a;
-      not-legal = λ m e a l. judge-data s m image room e a l;
-      no-song = λ n p j e. rw (j .0, j .1, e) refl;
-      busy = λ n p j h e. rw (j .0, j .1, pos-eqb (songAt (s .songs) n .len) h, e) refl;
-      play = λ n p j h e. rw (j .0, j .1, pos-eqb (songAt (s .songs) n .len) h, e, leb·zero room) refl;
-      sensors = λ id p j. rw (j .0, j .1) (cond-not (leb (length (answerBytes (statusOf s) image (id ∷ []))) room) _ _);
-      query = λ n p j. rw (j .0, j .1) (cond-not (leb (length (answerBytes (statusOf s) image (take n p))) room) _ _);
-    }
-
 fitted-right : (bytes : List ℕ) (room : ℕ) (s : State) → FittedRight bytes room s
 fitted-right bytes room s = record { enough = λ h. rw (le-leb (length bytes) room h) refl; no-room = λ h. rw (lt-leb (length bytes) room h) refl }
+
+module _ (s : State) (image : List ℕ) (room : ℕ) where
+  -- the answer to these packets
+  abbrev answer : List ℕ → List ℕ
+  answer ids = answerBytes (statusOf s) image ids
+
+  playing : (n : ℕ) (p : List ℕ) → Judged s (cmd.Play n) p → 0 < songAt (s .songs) n .len → s .songs .playing ≡ 0
+      → judgeOf s (message (cmd.Play n) p) image room ≡ gives 0 (withPlaying 1 (withSelected n s))
+  unfolding judgeOf
+  playing n p j h e = rw (j .0, j .1, pos-eqb (songAt (s .songs) n .len) h, e, leb·zero room) refl
+
+  asked : (id : ℕ) (p : List ℕ) → Judged s (cmd.Sensors id) p → judgeOf s (message (cmd.Sensors id) p) image room ≡ fitted (answer (id ∷ [])) room s
+  unfolding judgeOf
+  asked id p j = rw (j .0, j .1) (cond-not (leb (length (answer (id ∷ []))) room) _ _)
+
+  listed : (n : ℕ) (p : List ℕ) → Judged s (cmd.QueryList n) p → judgeOf s (message (cmd.QueryList n) p) image room ≡ fitted (answer (take n p)) room s
+  unfolding judgeOf
+  listed n p j = rw (j .0, j .1) (cond-not (leb (length (answer (take n p))) room) _ _)
+
+  refused : (m : Message) (n : ℕ) → Refused s image room m n → judgeOf s m image room ≡ gives n s
+  unfolding judgeOf
+  refused m n (unknown e) = rw e refl
+  refused m n (not-offered e) = rw e refl
+  refused m n (wrong-mode e a) = judge-mode s m image room e a
+  refused m n (not-legal e a l) = judge-data s m image room e a l
+  refused m n (no-song j e) = rw (j .0, j .1, e) refl
+  refused m n (busy {n = k} j h e) = rw (j .0, j .1, pos-eqb (songAt (s .songs) k .len) h, e) refl
+  refused m n (packet-long {id = id} {p = p} j h) = asked id p j ∙ fitted-right (answer (id ∷ [])) room s .no-room h
+  refused m n (list-long {n = k} {p = p} j h) = listed k p j ∙ fitted-right (answer (take k p)) room s .no-room h
+
+  number-column : NumberColumn s image room
+  number-column = record { refused = refused; play = playing; sensors = asked; query = listed }
+
+  -- from the number to its case
+  abbrev Given : Message → Type 0
+  Given m = (judgeOf s m image room .number ≡ 0 → ⊥) → Refused s image room m (judgeOf s m image room .number)
+
+  named : (m : Message) (n : ℕ) → Refused s image room m n → Given m
+  named m n r h = subst (Refused s image room m) (sym (ap (λ (o : Outcome). o .number) (refused m n r))) r
+
+  done : (m : Message) (x : State) (bytes : List ℕ) → judgeOf s m image room ≡ answers bytes x → Given m
+  done m x bytes e h = absurd (h (ap (λ (o : Outcome). o .number) e))
+
+  by-kind : (c : Command) (p : List ℕ) → Kind p c → refusalOf c ≡ 0 → Judged s c p → Given (message c p)
+  by-kind c p (plain e) r j = done (message c p) _ _ (does c p r e s image room (j .0) (j .1))
+  by-kind c p (play n) r j = ⊎-elim (λ e. named _ 5 (no-song j e)) (λ h. go (s .songs .playing) refl h) (eq-zero-or-pos (songAt (s .songs) n .len))
+    where
+      go : (b : Bool) → s .songs .playing ≡ b → 0 < songAt (s .songs) n .len → Given (message (cmd.Play n) p)
+      go true e h = named _ 6 (busy j h e)
+      go false e h = done _ _ [] (playing n p j h e)
+  by-kind c p (sensors id) r j =
+      ⊎-elim (λ h. done _ s (answer (id ∷ [])) (asked id p j ∙ fitted-right (answer (id ∷ [])) room s .enough h))
+      (λ h. named _ 7 (packet-long j h)) (le-or-lt (length (answer (id ∷ []))) room)
+  by-kind c p (query n) r j =
+      ⊎-elim (λ h. done _ s (answer (take n p)) (listed n p j ∙ fitted-right (answer (take n p)) room s .enough h))
+      (λ h. named _ 7 (list-long j h)) (le-or-lt (length (answer (take n p))) room)
+
+  given : (m : Message) → Given m
+  given m = go (eqb n 1) (eqb n 2) (allowedOf (m .command) (s .mode)) (legalOf m) refl refl refl refl
+    where
+      n : ℕ
+      n = refusalOf (m .command)
+
+      offered : eqb n 1 ≡ false → eqb n 2 ≡ false → n ≡ 0
+      offered d e = omega (arith, leb→le n 2 (refusal-small (m .command)), eqb-false n 1 d, eqb-false n 2 e)
+
+      go : (a b c l : Bool) → eqb n 1 ≡ a → eqb n 2 ≡ b → allowedOf (m .command) (s .mode) ≡ c → legalOf m ≡ l → Given m
+      go true b c l d e f g = named m 1 (unknown (eqb-true n 1 d))
+      go false true c l d e f g = named m 2 (not-offered (eqb-true n 2 e))
+      go false false false l d e f g = named m 3 (wrong-mode (offered d e) f)
+      go false false true false d e f g = named m 4 (not-legal (offered d e) f g)
+      go false false true true d e f g = by-kind (m .command) (m .payload) (kind (m .payload) s (m .command) .0) (offered d e) (f, g)
 
 -- ---- packets 35 to 42
 
@@ -150,6 +210,96 @@ module _ (s : State) (t : T (acceptedOf s)) where
   song-end-right : songEndOf s ≡ gives 0 (withPlaying 0 s)
   unfolding songEndOf
   song-end-right = simp accepted
+
+-- ---- a number is given exactly in its case
+
+abbrev numberOf : State → Call → ℕ
+numberOf s c = perform s c .outcome .number
+
+-- the first byte of a run
+module _ (s : State) (t : T (acceptedOf s)) (b : ℕ) (bs image buffer : List ℕ) where
+  abbrev holds : State
+  holds = withPartial (pushOf (s .partial) b .partial) s
+
+  run-last : pushOf (s .partial) b .complete ≡ true → numberOf s (run (b ∷ bs) image buffer) ≡ numberOf s (byte b image buffer)
+  run-last e =
+      let other : byteOf s b image (length buffer) .number ≡ 9 → ⊥ =
+      λ n. subst T (sym e ∙ byte-ends s b image (length buffer) t ∙ ap (λ (k : ℕ). not (eqb k 9)) n) tt in
+      ap (λ (x : Performed). x .outcome .number) (run-right s t image (length buffer) .last b bs other)
+
+  module _ (h : b < 256) (e : pushOf (s .partial) b .complete ≡ false) where
+    taken : byteOf s b image (length buffer) ≡ gives 9 holds
+    taken = byte-right s t b image (length buffer) .waits e
+
+    holds-accepted : T (acceptedOf holds)
+    holds-accepted = subst (λ (o : Outcome). T (acceptedOf (o .state))) taken (byte-accepted s b image (length buffer) t h)
+
+    run-more : numberOf s (run (b ∷ bs) image buffer) ≡ numberOf holds (run bs image buffer)
+    run-more =
+        ap (λ (x : Performed). x .outcome .number) (run-right s t image (length buffer) .more b bs h (ap (λ (o : Outcome). o .number) taken))
+        ∙ ap (λ (o : Outcome). runOf (o .state) bs image (length buffer) .outcome .number) taken
+
+in-case : (s : State) → T (acceptedOf s) → (c : Call) → T (allBytes (bytesOf c)) → (n : ℕ) → Case s c n → numberOf s c ≡ n
+unfolding chunkNow
+in-case s t c u n (waiting {b = b} {image = image} {buffer = buffer} e) =
+    ap (λ (o : Outcome). o .number) (byte-right s t b image (length buffer) .waits e)
+in-case s t c u n (judged {b = b} {image = image} {buffer = buffer} e r) =
+    ap (λ (o : Outcome). o .number) (byte-right s t b image (length buffer) .judged e ∙ refused (withPartial emptyPartial s) image (length buffer) _ n r)
+in-case s t c u n (none {image = image} {buffer = buffer}) =
+    ap (λ (x : Performed). x .outcome .number) (run-right s t image (length buffer) .none)
+in-case s t c u n (more {b = b} {bs = bs} {image = image} {buffer = buffer} e r) =
+    let v = and-yes (isByte b) (allBytes bs) u in
+    let h = ltb→lt b 256 (v .0) in
+    run-more s t b bs image buffer h e
+    ∙ in-case (holds s t b bs image buffer) (holds-accepted s t b bs image buffer h e) (run bs image buffer) (v .1) n r
+in-case s t c u n (last {b = b} {bs = bs} {image = image} {buffer = buffer} e r) =
+    let v = and-yes (isByte b) (allBytes bs) u in
+    run-last s t b bs image buffer e ∙ in-case s t (byte b image buffer) (yes-and (isByte b) true (v .0) tt) n r
+in-case s t c u n (in-off {image = image} {buffer = buffer} e) = ap (λ (o : Outcome). o .number) (tick-right s t image (length buffer) .in-off e)
+in-case s t c u n (chunk-long {image = image} {buffer = buffer} m e h l) =
+    ap (λ (o : Outcome). o .number) (tick-right s t image (length buffer) .chunk m e h ∙ fitted-right (chunkNow s image) (length buffer) s .no-room l)
+
+-- from the number to its case
+abbrev Named : State → Call → ℕ → Type 0
+Named s c n = (n ≡ 0 → ⊥) → Case s c n
+
+byte-case : (s : State) → T (acceptedOf s) → (b : ℕ) (image buffer : List ℕ) → Named s (byte b image buffer) (numberOf s (byte b image buffer))
+byte-case s t b image buffer =
+    byte-is s b image (length buffer) (λ (o : Outcome). Named s (byte b image buffer) (o .number)) (λ d. absurd (subst T d t)) (λ v e h. waiting e)
+    (λ v e h. judged e (given (withPartial emptyPartial s) image (length buffer) (messageOf s b) h))
+
+run-case : (image buffer bs : List ℕ) (s : State) → T (acceptedOf s) → T (allBytes bs) → Named s (run bs image buffer) (numberOf s (run bs image buffer))
+run-case image buffer [] s t u =
+    subst (Named s (run [] image buffer)) (sym (ap (λ (x : Performed). x .outcome .number) (run-right s t image (length buffer) .none))) (λ h. none)
+run-case image buffer (b ∷ bs) s t u =
+    let v = and-yes (isByte b) (allBytes bs) u in
+    let h = ltb→lt b 256 (v .0) in
+    go h (λ e. run-case image buffer bs (holds s t b bs image buffer) (holds-accepted s t b bs image buffer h e) (v .1)) (pushOf (s .partial) b .complete) refl
+  where
+    next : State
+    next = holds s t b bs image buffer
+
+    go : b < 256 → (pushOf (s .partial) b .complete ≡ false → Named next (run bs image buffer) (numberOf next (run bs image buffer)))
+        → (c : Bool) → pushOf (s .partial) b .complete ≡ c → Named s (run (b ∷ bs) image buffer) (numberOf s (run (b ∷ bs) image buffer))
+    go h i true e = subst (Named s (run (b ∷ bs) image buffer)) (sym (run-last s t b bs image buffer e)) (λ z. last e (byte-case s t b image buffer z))
+    go h i false e = subst (Named s (run (b ∷ bs) image buffer)) (sym (run-more s t b bs image buffer h e)) (λ z. more e (i e z))
+
+call-case : (s : State) → T (acceptedOf s) → (c : Call) → T (allBytes (bytesOf c)) → Named s c (numberOf s c)
+unfolding chunkNow
+call-case s t (byte b image buffer) u = byte-case s t b image buffer
+call-case s t (run bs image buffer) u = run-case image buffer bs s t u
+call-case s t (report drop cliff charger) u =
+    report-is (λ (o : Outcome). Named s (report drop cliff charger) (o .number)) s drop cliff charger (λ d. absurd (subst T d t)) (λ v h. absurd (h refl))
+    (λ v h. absurd (h refl))
+call-case s t (tick image buffer) u =
+    tick-is (λ (o : Outcome). Named s (tick image buffer) (o .number)) s image (length buffer) (λ d. absurd (subst T d t)) (λ e h. in-off e)
+    (λ h. absurd (h refl)) (λ l h. absurd (h refl))
+    (λ m e l h.
+    let on = both (s .stream .on) (not (eqb (s .stream .count) 0)) e in
+    let some = eqb-false (s .stream .count) 0 (not-true (eqb (s .stream .count) 0) (on .1)) in
+    chunk-long m (on .0) (omega arith) l)
+call-case s t songEnd u =
+    song-end-is (λ (o : Outcome). Named s songEnd (o .number)) s (λ d. absurd (subst T d t)) (λ v h. absurd (h refl))
 
 -- ---- a Demo's two bytes
 
@@ -239,5 +389,6 @@ rules-right =
       tick-right = tick-right;
       demo-right = demo-right;
       backing-right = backing-right;
+      exactly = λ s t c u. record { in-case = in-case s t c u; case-of = call-case s t c u };
       song-end-right = song-end-right;
     }

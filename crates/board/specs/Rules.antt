@@ -10,6 +10,7 @@ use lib.Dec.{T, leb, ltb, eqb}
 use lib.IntN.{ℤ, pos, _+ℤ_, _-ℤ_, _*ℤ_}
 use lib.Signed.{ltZ}
 use lib.ListN.{length, take}
+use Rattle.wire.specs.Lists.{allBytes}
 use Rattle.wire.specs.Sixteen.{minus}
 use Rattle.frame.specs.Push.{pushOf, stored, emptyPartial}
 use Rattle.frame.specs.RunTable.{waits}
@@ -27,7 +28,7 @@ use Rattle.state.specs.Accepted.{acceptedOf}
 use Rattle.state.specs.declared.State.{State}
 use Rattle.board.specs.Outcome.{Outcome, gives, answers, fitted}
 use Rattle.board.specs.Judge.{statusOf, judgeOf}
-use Rattle.board.specs.Calls.{byteOf, intoCliff, reportOf, tickOf, songEndOf, performed, runOf}
+use Rattle.board.specs.Calls.{byteOf, intoCliff, reportOf, tickOf, songEndOf, performed, runOf, Call, byte, run, tick, perform, bytesOf}
 
 -- ---- commands
 
@@ -69,16 +70,25 @@ pub record EffectColumn (p : List ℕ) : Type 0 where
 abbrev pub Judged : State → Command → List ℕ → Type 0
 Judged s c p = (allowedOf c (s .mode) ≡ true) × (legalOf (message c p) ≡ true)
 
--- THEOREM: the numbers 1 to 7, each in its case, in their order; and what 141, 142 and 149 do
+-- document 01's numbers 1 to 7, each in its case, where none before it applies
+pub data Refused (s : State) (image : List ℕ) (room : ℕ) : Message → ℕ → Type 0 where
+  unknown : {m : Message} → refusalOf (m .command) ≡ 1 → Refused s image room m 1
+  not-offered : {m : Message} → refusalOf (m .command) ≡ 2 → Refused s image room m 2
+  wrong-mode : {m : Message} → refusalOf (m .command) ≡ 0 → allowedOf (m .command) (s .mode) ≡ false → Refused s image room m 3
+  not-legal : {m : Message} → refusalOf (m .command) ≡ 0 → allowedOf (m .command) (s .mode) ≡ true → legalOf m ≡ false
+      → Refused s image room m 4
+  no-song : {n : ℕ} {p : List ℕ} → Judged s (cmd.Play n) p → songAt (s .songs) n .len ≡ 0
+      → Refused s image room (message (cmd.Play n) p) 5
+  busy : {n : ℕ} {p : List ℕ} → Judged s (cmd.Play n) p → 0 < songAt (s .songs) n .len → s .songs .playing ≡ 1
+      → Refused s image room (message (cmd.Play n) p) 6
+  packet-long : {id : ℕ} {p : List ℕ} → Judged s (cmd.Sensors id) p → room < length (answerBytes (statusOf s) image (id ∷ []))
+      → Refused s image room (message (cmd.Sensors id) p) 7
+  list-long : {n : ℕ} {p : List ℕ} → Judged s (cmd.QueryList n) p → room < length (answerBytes (statusOf s) image (take n p))
+      → Refused s image room (message (cmd.QueryList n) p) 7
+
+-- THEOREM: what a refusal leaves, and what 141, 142 and 149 do
 pub record NumberColumn (s : State) (image : List ℕ) (room : ℕ) : Type 0 where
-  pub unknown : (m : Message) → refusalOf (m .command) ≡ 1 → judgeOf s m image room ≡ gives 1 s
-  pub not-offered : (m : Message) → refusalOf (m .command) ≡ 2 → judgeOf s m image room ≡ gives 2 s
-  pub wrong-mode : (m : Message) → refusalOf (m .command) ≡ 0 → allowedOf (m .command) (s .mode) ≡ false → judgeOf s m image room ≡ gives 3 s
-  pub not-legal : (m : Message) → refusalOf (m .command) ≡ 0 → allowedOf (m .command) (s .mode) ≡ true → legalOf m ≡ false
-      → judgeOf s m image room ≡ gives 4 s
-  pub no-song : (n : ℕ) (p : List ℕ) → Judged s (cmd.Play n) p → songAt (s .songs) n .len ≡ 0 → judgeOf s (message (cmd.Play n) p) image room ≡ gives 5 s
-  pub busy : (n : ℕ) (p : List ℕ) → Judged s (cmd.Play n) p → 0 < songAt (s .songs) n .len → s .songs .playing ≡ 1
-      → judgeOf s (message (cmd.Play n) p) image room ≡ gives 6 s
+  pub refused : (m : Message) (n : ℕ) → Refused s image room m n → judgeOf s m image room ≡ gives n s
   pub play : (n : ℕ) (p : List ℕ) → Judged s (cmd.Play n) p → 0 < songAt (s .songs) n .len → s .songs .playing ≡ 0
       → judgeOf s (message (cmd.Play n) p) image room ≡ gives 0 (withPlaying 1 (withSelected n s))
   -- the packets, or 7
@@ -156,6 +166,31 @@ pub record TickRight (s : State) (image : List ℕ) (room : ℕ) : Type 0 where
   pub chunk : (s .mode ≡ 0 → ⊥) → s .stream .on ≡ 1 → 0 < s .stream .count
       → tickOf s image room ≡ fitted (chunkBytes (statusOf s) image (take (s .stream .count) (s .stream .ids))) room s
 
+-- ---- a number is given exactly in its case
+
+-- the case of each number but 0 and 8: a call on an accepted record gives 0 otherwise
+pub data Case : State → Call → ℕ → Type 0 where
+  -- a byte: frame not complete; its command is refused
+  waiting : {s : State} {b : ℕ} {image buffer : List ℕ} → pushOf (s .partial) b .complete ≡ false → Case s (byte b image buffer) 9
+  judged : {s : State} {b n : ℕ} {image buffer : List ℕ} → pushOf (s .partial) b .complete ≡ true
+      → Refused (withPartial emptyPartial s) image (length buffer) (decodeOf (pushOf (s .partial) b .partial .bytes)) n
+      → Case s (byte b image buffer) n
+  -- a run: no byte; a byte that waits, and the case of the rest; the case of a byte that ends its frame
+  none : {s : State} {image buffer : List ℕ} → Case s (run [] image buffer) 9
+  more : {s : State} {b n : ℕ} {bs image buffer : List ℕ} → pushOf (s .partial) b .complete ≡ false
+      → Case (withPartial (pushOf (s .partial) b .partial) s) (run bs image buffer) n → Case s (run (b ∷ bs) image buffer) n
+  last : {s : State} {b n : ℕ} {bs image buffer : List ℕ} → pushOf (s .partial) b .complete ≡ true
+      → Case s (byte b image buffer) n → Case s (run (b ∷ bs) image buffer) n
+  -- a tick
+  in-off : {s : State} {image buffer : List ℕ} → s .mode ≡ 0 → Case s (tick image buffer) 3
+  chunk-long : {s : State} {image buffer : List ℕ} → (s .mode ≡ 0 → ⊥) → s .stream .on ≡ 1 → 0 < s .stream .count
+      → length buffer < length (chunkBytes (statusOf s) image (take (s .stream .count) (s .stream .ids))) → Case s (tick image buffer) 7
+
+-- THEOREM: a number but 0 is given in its case, and in no other
+pub record Exactly (s : State) (c : Call) : Type 0 where
+  pub in-case : (n : ℕ) → Case s c n → perform s c .outcome .number ≡ n
+  pub case-of : (perform s c .outcome .number ≡ 0 → ⊥) → Case s c (perform s c .outcome .number)
+
 -- ---- document 02, One: Demo takes a number
 
 -- 136 has come, and its number is owed
@@ -199,5 +234,6 @@ pub record RulesRight : Type 0 where
   pub tick-right : (s : State) → T (acceptedOf s) → (image : List ℕ) (room : ℕ) → TickRight s image room
   pub demo-right : (s : State) → T (acceptedOf s) → s .partial ≡ emptyPartial → (image : List ℕ) (room : ℕ) → DemoRight s image room
   pub backing-right : (s : State) → BackingRight s
+  pub exactly : (s : State) → T (acceptedOf s) → (c : Call) → T (allBytes (bytesOf c)) → Exactly s c
   -- a song end only clears playing
   pub song-end-right : (s : State) → T (acceptedOf s) → songEndOf s ≡ gives 0 (withPlaying 0 s)
