@@ -1,36 +1,25 @@
 -- What legal data tell of the commands whose numbers are used as an index or a length.
 -- Assumes nothing.
 use mathlib.Core.Path.{_≡_, sym, _∙_}
-use mathlib.Core.Bool.{true, _&&_}
+use mathlib.Core.Bool.{true}
 use mathlib.Core.List.{List, [], _∷_}
-use Prim.Native.Nat.{ℕ, _*_, _≤_, _<_}
+use Prim.Native.Nat.{ℕ, _≤_, _<_}
 use native.Mathlib.Omega.{arith}
 use lib.Dec.{T, leb}
-use lib.IntN.{pos}
 use lib.ListN.{take}
 use borrow.Author.Tests.{leb-true}
-use Rattle.wire.specs.Lists.{allBytes}
 use Rattle.wire.proofs.BoolLaws.{both}
 use Rattle.packet.specs.Answers.{listableOf}
-use Rattle.command.specs.Layout.{storedCount}
-use Rattle.command.specs.CommandTable.{_to_, isIn, isLegal, upTo, rowOf, legalOf}
+use Rattle.command.specs.CommandTable.{isIn, isLegal, rowOf, legalOf}
 use Rattle.command.specs.Commands.{message}
 use Rattle.command.specs.declared.Command.the-variants as cmd
-use Rattle.command.proofs.CommandTableLaws.{up-to, byte-legal, query-legal}
+use Rattle.command.proofs.CommandTableLaws.{byte-legal, query-legal}
 
 pub pause-on : (p : List ℕ) → T (legalOf (message (cmd.Pause 1) p))
 unfolding isIn isLegal rowOf legalOf
 pause-on p = tt
 
 module _ (n : ℕ) (p : List ℕ) where
-  pub song-number : (notes : ℕ) → legalOf (message (cmd.Song n notes) p) ≡ true → n < 16
-  unfolding legalOf rowOf
-  song-number notes e =
-      let second = isLegal ((pos 1 to pos 16) ∷ []) (pos notes) && true in
-      let numbers = both (isLegal (upTo 15) (pos n) && second) (allBytes (take (2 * storedCount notes) p)) e .0 in
-      let h = leb-true n 15 (sym (up-to 15 n) ∙ both (isLegal (upTo 15) (pos n)) second numbers .0) in
-      omega arith
-
   pub play-number : legalOf (message (cmd.Play n) p) ≡ true → n < 16
   unfolding legalOf rowOf
   play-number e = let h = leb-true n 15 (byte-legal 15 n ∙ e) in omega arith

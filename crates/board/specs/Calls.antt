@@ -1,6 +1,6 @@
 -- The five calls, and lists of them (document 01, 'Numbers given back', 'Safety reports', 'Packets and chunks', 'The run of 128s').
 -- Assumes nothing.
-use mathlib.Core.Bool.{Bool, false, not, cond, _&&_, _||_}
+use mathlib.Core.Bool.{Bool, not, cond, _&&_, _||_}
 use mathlib.Core.List.{List, [], _∷_, _++_, map}
 use Prim.Native.Nat.{ℕ, _+_, _*_}
 use lib.Dec.{ltb, eqb}

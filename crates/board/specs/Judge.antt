@@ -1,7 +1,7 @@
 -- What a command does when its last byte comes, by the mode then in force (document 01, 'Commands at their last byte', 'Numbers given back').
 -- It knows no bytes of a frame.
 -- Assumes nothing.
-use mathlib.Core.Bool.{Bool, true, false, not, cond}
+use mathlib.Core.Bool.{Bool, false, not, cond}
 use mathlib.Core.List.{List, [], _∷_}
 use Prim.Native.Nat.{ℕ, _/_, _%_}
 use lib.Dec.{leb, eqb}

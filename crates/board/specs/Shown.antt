@@ -1,7 +1,7 @@
 -- Document 01's shown cases, W1 to W13, as one table that a board is held against; and boards that it rejects (document 01, 'How tight the statements are').
 -- What the cases expect is written out, and cites no rule.
 -- Assumes nothing.
-use mathlib.Core.Bool.{Bool, true, false, not, cond, _&&_}
+use mathlib.Core.Bool.{Bool, not, cond, _&&_}
 use mathlib.Core.List.{List, [], _∷_, _++_, map, flatMap}
 use Prim.Native.Nat.{ℕ, _-_}
 use lib.Dec.{eqb}

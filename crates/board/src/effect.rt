@@ -1,10 +1,8 @@
 // What a command does to the record.
 ghost use mathlib.Core.Path.{_≡_};
-ghost use mathlib.Core.Bool.{true};
 ghost use mathlib.Core.List.{[], _∷_};
 ghost use Prim.Native.Nat.{_<_};
 ghost use Rattle.state.specs.State.{withDuties};
-ghost use Rattle.command.specs.CommandTable.{legalOf};
 ghost use Rattle.board.specs.Judge.{dutyOf, effectIn};
 use command::Command;
 use command::Message;
@@ -29,9 +27,8 @@ fn with_drivers(state: State, bits: u8) -> State
     state::with_duties(state, duties)
 }
 
-// What a command with legal data does, in the order of document 01's rows.
+// What a command does, in the order of document 01's rows.
 pub fn effect(state: State, message: Message) -> State
-    requires { ⌜ legalOf message ≡ true ⌝ }
     ensures { λ r. ⌜ r ≡ effectIn message .sets state ⌝ }
 {
     let command = message.command;

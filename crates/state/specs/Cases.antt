@@ -1,7 +1,7 @@
 -- Records in numbers: each item of document 01's list, broken alone, beside a neighbour that is accepted. One record is written out, and the others differ
 -- from it by the setters. The values that make a record bad or good are numbers, and cite no range and no rule.
 -- Assumes nothing.
-use mathlib.Core.Bool.{Bool, true, false, not, cond, _&&_}
+use mathlib.Core.Bool.{Bool, true, not, cond, _&&_}
 use mathlib.Core.List.{List, [], _∷_, _++_}
 use Prim.Native.Nat.{ℕ, suc}
 use lib.IntN.{ℤ, pos}

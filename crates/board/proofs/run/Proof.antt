@@ -15,7 +15,6 @@ use Rattle.frame.specs.Absorb.{absorbOf}
 use Rattle.frame.specs.declared.Absorbed.{Absorbed}
 use Rattle.frame.specs.declared.Partial.{Partial}
 use Rattle.command.specs.Layout.{decodeOf}
-use Rattle.command.specs.CommandTable.{legalOf}
 use Rattle.command.specs.declared.Message.{Message}
 use Rattle.state.specs.State.{withPartial}
 use Rattle.state.specs.Accepted.{acceptedOf}
@@ -23,8 +22,7 @@ use Rattle.state.specs.declared.State.{State}
 use Rattle.board.specs.Outcome.{gives}
 use Rattle.board.specs.Judge.{effectIn, judgeOf}
 use Rattle.board.specs.Calls.{performed, runOf, ranAs}
-use Rattle.board.proofs.OutcomeLaws.{MetSent, sent-number}
-use Rattle.board.proofs.JudgeLaws.{judge-legal}
+use Rattle.board.proofs.OutcomeLaws.{MetSent}
 use Rattle.board.proofs.RunLaws.{ran-met, ran-gives, sent-of, ran-refused, ran-done, Going, rest-is, going-start, going-end, absorbed-inside, absorbed-on, absorbed-done}
 use Rattle.board.proofs.run.Statement.{statement}
 use Rattle.board.proofs.run.Tie as tie
@@ -164,12 +162,6 @@ returns-3 c =
     (ran-refused (a .state) (message at) (a .image .now) (a .buffer .now) (read at) (met at) (c .before .if4 .taken)
     (c .ended3 .ensures ∙ ap (λ (s : State). ranAs (performed (gives (judge at .judge .result .number) s) (read at))) (cleared at)))
 
-effect-requires : tie.Need-effect-requires Inv-loop μ-loop
-effect-requires c κs =
-    let at = c .before .before in
-    let a = start (taken at) .args in
-    ap legalOf (says at) ∙ judge-legal (a .state) (message at) (a .image .now) (length (a .buffer .now)) (sym (sent-number _ (met at .0)) ∙ c .if4 .left)
-
 returns-4 : tie.Need-returns-4 Inv-loop μ-loop
 returns-4 c =
     let at = c .before .before .before in
@@ -215,7 +207,7 @@ run-spec =
     (λ c κs. search needs)
     (λ c κs. search needs)
     (λ c κs. search needs)
-    effect-requires
+    (λ c κs. search needs)
     loop-less
     loop-again
     same-length

@@ -1,17 +1,14 @@
 -- `board::effect::effect` meets its contract: each arm is its row.
 -- Assumes nothing.
-use mathlib.Core.Path.{_≡_, refl, sym, ap, subst, _∙_}
-use mathlib.Core.Bool.{true}
+use mathlib.Core.Path.{_≡_, refl, sym, ap, _∙_}
 use mir.Syntax.{w16}
 use mir.ValLaws.{toZ-ofZ}
 use borrow.Author.Needs.{needs}
-use Rattle.command.specs.CommandTable.{legalOf}
 use Rattle.command.specs.Commands.{message}
 use Rattle.command.specs.declared.Command.{Command}
 use Rattle.state.specs.State.{toPassive}
 use Rattle.state.specs.declared.State.{State}
 use Rattle.board.specs.Judge.{effectOf, effectIn}
-use Rattle.board.proofs.LegalLaws.{song-number}
 use Rattle.board.proofs.effect.effect.Statement.{statement}
 use Rattle.board.proofs.effect.effect.Tie as tie
 
@@ -19,13 +16,6 @@ use Rattle.board.proofs.effect.effect.Tie as tie
 acts : (c : tie.Start) {y : Command} {r : State} → c .args .message .command ≡ y
     → r ≡ effectOf y (c .args .message .payload) .sets (c .args .state) → r ≡ effectIn (c .args .message) .sets (c .args .state)
 acts c q e = e ∙ ap (λ (x : Command). effectOf x (c .args .message .payload) .sets (c .args .state)) (sym q)
-
-with-song-requires : tie.Need-with-song-requires
-with-song-requires c κs =
-    let begun = c .before .before .before .before in
-    let m = begun .args .message in
-    let told = c .before .command9 .given in
-    song-number (told .0 .0) (m .payload) (told .0 .1 .0) (subst (λ (x : Command). legalOf (message x (m .payload)) ≡ true) (told .1) (begun .pre))
 
 drives : tie.Need-returns-11
 drives c =
@@ -83,7 +73,7 @@ effect-spec =
     (λ c. search needs)
     (λ c κs. search needs)
     (λ c. search needs)
-    with-song-requires
+    (λ c κs. search needs)
     (λ c. search needs)
     (λ c κs. search needs)
     (λ c. search needs)
