@@ -6,16 +6,17 @@ use Rattle.wire.specs.Sixteen.{read16Of}
 use Rattle.frame.specs.FrameTable.{dataLength}
 use Rattle.frame.specs.Push.{bodySizeAs}
 use Rattle.frame.specs.Reach.{reachableOf}
-use Rattle.frame.proofs.CutProved.{cut-in-numbers, cut-by-table, run-of-128s}
+use Rattle.frame.proofs.CutProved.{cut-in-numbers, cut-by-table, stored-as-sent, complete-exactly, reachable-exact, run-of-128s}
 use Rattle.packet.specs.SizeTable.{sizeOf, startOf, groupOf, packetsOf}
 use Rattle.packet.specs.Packets.{sensorBytes, packetIn, dataIn, itemsIn, answerBytes, checksumOf, counted, chunkOf, chunkBytes}
 use Rattle.packet.specs.Answers.{listableOf, streamableOf}
-use Rattle.packet.proofs.SensorsProved.{sizes-agree, sensors-in-numbers}
+use Rattle.packet.proofs.SensorsProved.{sizes-agree, sensors-in-numbers, packets-right, answers-right, chunks-right}
 use Rattle.command.specs.Layout.{commandOf, decodeOf}
 use Rattle.command.specs.CommandTable.{isIn, isLegal, rowOf, allowedOf, legalOf}
-use Rattle.command.proofs.CommandsProved.{commands-in-numbers, round-trip}
+use Rattle.command.proofs.CommandsProved.{commands-in-numbers, mode-column, data-column, decoding-right, writing-right, round-trip}
 use Rattle.state.specs.State.{motorsOff}
 use Rattle.state.specs.Accepted.{modeNamed, orderNamed, offUnlessDriven, wheelsLegal, dutiesLegal, outputsLegal, baudLegal, selectedLegal, streamLegal, lengthLegal, playingSet, notesZero, idsZero, motorsTyped, keptTyped, songTyped, songsTyped, streamTyped, typed, acceptedOf}
+use Rattle.state.proofs.RecordProved.{setters-right, power-on-right, stop-right, accepted-exactly}
 use Rattle.state.proofs.SameLaws.{same-exactly}
 use Rattle.board.specs.Judge.{statusOf, judgeOf}
 use Rattle.board.specs.Calls.{fedOf, byteOf, backsRound, intoCliff, reportOf, chunkNow, tickOf, songEndOf, runOf}
@@ -30,27 +31,31 @@ demand-2 =
     record {
       frame-table = cut-by-table;
       frame-cases = cut-in-numbers;
-      run-table = run-of-128s .rows-run;
-      command-rows = commands-in-numbers .rows-in-order;
-      refusals = commands-in-numbers .refusals-right;
-      modes = commands-in-numbers .modes-right;
-      legal-bytes = commands-in-numbers .bytes-right;
-      legal-data = commands-in-numbers .data-right;
+      stored-as-sent = stored-as-sent;
+      complete-exactly = complete-exactly;
+      held-exactly = reachable-exact;
+      run-table = run-of-128s;
+      command-table = commands-in-numbers;
+      modes = mode-column;
+      legal-data = data-column;
+      decoding = decoding-right;
+      writing = writing-right;
       effect-rows = refl;
       effects = tt;
+      power-on = power-on-right;
+      stops = stop-right;
+      setters = setters-right;
+      bad-records = accepted-exactly;
       packet-sizes = sizes-agree;
       packet-cases = sensors-in-numbers;
-      shown = tt;
-      refuses-all = refl;
-      stays-passive = refl;
-      always-zero = refl;
-      does-nothing = refl;
-      first-byte-only = refl;
-      counts-slice = refl;
-      counts-less = refl;
-      named-cases = tt;
+      packets = packets-right;
+      answers = answers-right;
+      chunks = chunks-right;
       rules = rules-right;
+      shown = tt;
+      rejected = tt;
+      named-cases = tt;
       records-same = same-exactly;
       write-then-read = read-back;
-      read-then-write = round-trip .read-written;
+      read-then-write = round-trip;
     }

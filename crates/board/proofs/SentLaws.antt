@@ -10,12 +10,13 @@ use lib.Dec.{T, eqb, ltb→lt}
 use lib.ListN.{length, getD, drop, replicate}
 use mir.Facts.{and-yes}
 use borrow.Author.Tests.{ne-eqb}
-use Rattle.wire.specs.Lists.{snoc, isByte, allBytes}
+use Rattle.wire.specs.Lists.{snoc, isByte, allBytes, byteArray}
 use Rattle.wire.proofs.BoolLaws.{is-true, cond-true}
 use Rattle.frame.specs.Push.{pushOf, emptyPartial, afterOf, completed}
 use Rattle.frame.specs.declared.Partial.{Partial}
 use Rattle.command.specs.Layout.{allSent, formOf, opcodeOf, payloadIn, encodeOf, decodeOf}
-use Rattle.command.specs.Commands.{Sendable}
+use Rattle.command.specs.CommandTable.{legalOf}
+use Rattle.command.specs.Commands.{readAs}
 use Rattle.command.specs.declared.Message.{Message}
 use Rattle.command.proofs.CommandsProved.{writing-right, round-trip}
 use Rattle.state.specs.State.{withPartial}
@@ -91,36 +92,36 @@ frame-ends : (m : Message) → Ends (encodeOf m)
 unfolding encodeOf
 frame-ends m = ends (opcodeOf (m .command)) (allSent (formOf (m .command) .items) ++ payloadIn m)
 
-module _ (m : Message) (sent : Sendable m) (s : State) (t : T (acceptedOf s)) (h : s .partial ≡ emptyPartial) where
+module _ (m : Message) (legal : legalOf m ≡ true) (array : T (byteArray 32 (m .payload))) (s : State) (t : T (acceptedOf s)) (h : s .partial ≡ emptyPartial) where
   module _ (bs : List ℕ) (b : ℕ) (e : encodeOf m ≡ snoc bs b) where
     frame-reads : (image buffer : List ℕ) → Reads s bs b image buffer
     frame-reads image buffer =
-        let u = writing-right .are-bytes m (sent .legal) (and-yes (eqb (length (m .payload)) 32) (allBytes (m .payload)) (sent .array) .1) in
+        let u = writing-right .are-bytes m legal (and-yes (eqb (length (m .payload)) 32) (allBytes (m .payload)) array .1) in
         reads-frame s bs b image buffer t (subst (λ (l : List ℕ). T (allBytes l)) e u)
-        (subst (λ (p : Partial). CompletesAt p bs b) (sym h) (round-trip .written-complete m sent bs b e))
+        (subst (λ (p : Partial). CompletesAt p bs b) (sym h) (round-trip .written-complete m legal array bs b e))
 
     -- the frame says the message, and the record with nothing held is the one that there was
-    judged-as : (image : List ℕ) (room : ℕ) → judgedAt (holding s bs) b image room ≡ judgeOf s m image room
+    judged-as : (image : List ℕ) (room : ℕ) → judgedAt (holding s bs) b image room ≡ judgeOf s (readAs m) image room
     judged-as image room =
         ap₂ (λ (x : State) (n : Message). judgeOf x n image room) (ap (λ (p : Partial). withPartial p s) (sym h))
-        (ap (λ (p : Partial). decodeOf (pushOf (afterOf p bs) b .partial .bytes)) h ∙ round-trip .written-read m sent bs b e)
+        (ap (λ (p : Partial). decodeOf (pushOf (afterOf p bs) b .partial .bytes)) h ∙ round-trip .written-read m legal array bs b e)
 
-    judged : (image buffer now : List ℕ) (room : ℕ) → byteOf (after s (oneByOne bs image buffer)) b now room ≡ judgeOf s m now room
+    judged : (image buffer now : List ℕ) (room : ℕ) → byteOf (after s (oneByOne bs image buffer)) b now room ≡ judgeOf s (readAs m) now room
     judged image buffer now room =
         let r = frame-reads image buffer in
         ap (λ (x : State). byteOf x b now room) (r .holds) ∙ byte-judged (holding s bs) b now room (r .accepted) (r .completes) ∙ judged-as now room
 
-    run-over : (image : List ℕ) (room : ℕ) → runOf s (snoc bs b) image room ≡ performed (judgeOf s m image room) (length (snoc bs b))
+    run-over : (image : List ℕ) (room : ℕ) → runOf s (snoc bs b) image room ≡ performed (judgeOf s (readAs m) image room) (length (snoc bs b))
     unfolding runOf
     run-over image room =
         cond-true (acceptedOf s) (feed s (snoc bs b) image room) (performed (gives 8 s) 0) (is-true (acceptedOf s) t)
         ∙ frame-reads [] [] .runs image room
         ∙ ap (λ (o : Outcome). performed o (length (snoc bs b))) (judged-as image room)
 
-  in-a-run : (image : List ℕ) (room : ℕ) → runOf s (encodeOf m) image room ≡ performed (judgeOf s m image room) (length (encodeOf m))
+  in-a-run : (image : List ℕ) (room : ℕ) → runOf s (encodeOf m) image room ≡ performed (judgeOf s (readAs m) image room) (length (encodeOf m))
   in-a-run image room =
       let l = frame-ends m in
-      subst (λ (x : List ℕ). runOf s x image room ≡ performed (judgeOf s m image room) (length x)) (sym (l .is)) (run-over (l .front) (l .last) (l .is) image room)
+      subst (λ (x : List ℕ). runOf s x image room ≡ performed (judgeOf s (readAs m) image room) (length x)) (sym (l .is)) (run-over (l .front) (l .last) (l .is) image room)
 
   pub read-back : ReadBack m s
   read-back = record { waits = λ bs b e image buffer. frame-reads bs b e image buffer .waits; judged = judged; in-a-run = in-a-run }

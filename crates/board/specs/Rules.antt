@@ -175,7 +175,7 @@ pub data Case : State → Call → ℕ → Type 0 where
   judged : {s : State} {b n : ℕ} {image buffer : List ℕ} → pushOf (s .partial) b .complete ≡ true
       → Refused (withPartial emptyPartial s) image (length buffer) (decodeOf (pushOf (s .partial) b .partial .bytes)) n
       → Case s (byte b image buffer) n
-  -- a run: no byte; a byte that waits, and the case of the rest; the case of a byte that ends its frame
+  -- a run: no byte; a byte that waits, and the rest's case; that of a byte that ends its frame
   none : {s : State} {image buffer : List ℕ} → Case s (run [] image buffer) 9
   more : {s : State} {b n : ℕ} {bs image buffer : List ℕ} → pushOf (s .partial) b .complete ≡ false
       → Case (withPartial (pushOf (s .partial) b .partial) s) (run bs image buffer) n → Case s (run (b ∷ bs) image buffer) n

@@ -45,7 +45,7 @@ abbrev stepsRight : Board → State → List Step → State → Bool
 stepsRight board s [] t = sameState s t
 stepsRight board s (x ∷ xs) t = let p = board s (x .call) in stepRight x p && stepsRight board (p .outcome .state) xs t
 
-abbrev pub rowPasses : Board → Row → Bool
+abbrev rowPasses : Board → Row → Bool
 rowPasses board r = stepsRight board (r .start) (r .steps) (r .end)
 
 -- ---- bytes
@@ -111,13 +111,13 @@ expanded c = byBytes c ∷ byRun [] c ∷ cond (eqb (lastOf (c .fed)) 9) [] (byR
 abbrev ready : ℕ → State
 ready mode = withPartial (stored [] 0) (telling mode)
 
-abbrev pub w1 : ByteCase
+abbrev w1 : ByteCase
 w1 = feeding (ready 0) (128 giving 0 ∷ []) (withMode 1 (ready 0))
 
-abbrev pub w3 : ByteCase
+abbrev w3 : ByteCase
 w3 = feeding (ready 2) (waiting (137 ∷ 255 ∷ 56 ∷ 1 ∷ []) (244 giving 0)) (withWheels 1 (minus 200) (pos 500) (ready 2))
 
-abbrev pub w4 : ByteCase
+abbrev w4 : ByteCase
 w4 = refusing (ready 1) (waiting (137 ∷ 255 ∷ 56 ∷ 1 ∷ []) (244 giving 3))
 
 -- the status in Passive: song 3, not playing, a list of 2, no order
@@ -183,14 +183,14 @@ numbered n p = performed (record { number = n; state = p .outcome .state; answer
 abbrev leaving : State → Performed → Performed
 leaving s p = performed (record { number = p .outcome .number; state = s; answer = p .outcome .answer }) (p .read)
 
-abbrev pub refusesAll : Board
+abbrev refusesAll : Board
 refusesAll s c = performed (gives 4 s) (perform s c .read)
 
-abbrev pub staysPassive : Board
+abbrev staysPassive : Board
 staysPassive s c = let p = perform s c in leaving (toPassive (p .outcome .state)) p
 
 -- a byte that waits gives 9
-abbrev pub alwaysZero : Board
+abbrev alwaysZero : Board
 alwaysZero s c = let p = perform s c in cond (eqb (p .outcome .number) 9) p (numbered 0 p)
 
 abbrev pub doesNothing : Board
@@ -212,10 +212,10 @@ firstByteOnly =
     performed (p .outcome) (cond (eqb (p .read) 0) 0 (length bs)))
 
 -- an invented count: the slice's length; one less than the bytes read
-abbrev pub countsSlice : Board
+abbrev countsSlice : Board
 countsSlice = runningBy (λ s bs image buffer. performed (runOf s bs image (length buffer) .outcome) (length bs))
 
-abbrev pub countsLess : Board
+abbrev countsLess : Board
 countsLess = runningBy (λ s bs image buffer. let p = runOf s bs image (length buffer) in performed (p .outcome) (p .read - 1))
 
 -- a wrong board, and the case that rejects it: the one that document 01 names, and for a count W3, in a run that leaves bytes unread
