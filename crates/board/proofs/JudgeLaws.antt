@@ -160,21 +160,12 @@ first-leaving s t u v bytes (r ∷ rs) w =
 
 -- what a command needs does not depend on what is held
 
-song-held : (s : State) (p : Partial) (n : Needs) → noSong (withPartial p s) n ≡ noSong s n
-song-held s p nothing = refl
-song-held s p (aSong k) = refl
-song-held s p (packets ids) = refl
-
-busy-held : (s : State) (p : Partial) (n : Needs) → busy (withPartial p s) n ≡ busy s n
-busy-held s p nothing = refl
-busy-held s p (aSong k) = refl
-busy-held s p (packets ids) = refl
-
-answer-held : (s : State) (p : Partial) (n : Needs) (image : List ℕ) → answerOf (withPartial p s) n image ≡ answerOf s n image
+held : (s : State) (p : Partial) (image : List ℕ) (n : Needs)
+    → (noSong (withPartial p s) n ≡ noSong s n) × ((busy (withPartial p s) n ≡ busy s n) × (answerOf (withPartial p s) n image ≡ answerOf s n image))
 unfolding statusOf
-answer-held s p nothing image = refl
-answer-held s p (aSong k) image = refl
-answer-held s p (packets ids) image = refl
+held s p image nothing = (refl, (refl, refl))
+held s p image (aSong k) = (refl, (refl, refl))
+held s p image (packets ids) = (refl, (refl, refl))
 
 -- ---- judgeOf
 
@@ -222,8 +213,8 @@ module _ (s : State) (m : Message) (image : List ℕ) (room : ℕ) where
     judge-held : judgeOf (withPartial p s) m image room ≡ leaving (judgeOf s m image room) (withPartial p s) (effectIn m .sets (withPartial p s))
     unfolding judgeOf
     judge-held =
-        let n = effectIn m .needs in
-        rw (song-held s p n, busy-held s p n, answer-held s p n image)
+        let h = held s p image (effectIn m .needs) in
+        rw (h .0, h .1 .0, h .1 .1)
         (first-leaving s (withPartial p s) (effectIn m .sets s) (effectIn m .sets (withPartial p s)) answer (rules s m image room) tt)
 
     pub held-refused : (judgeOf s m image room .number ≡ 0 → ⊥)

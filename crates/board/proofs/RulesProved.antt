@@ -19,7 +19,7 @@ use Rattle.wire.specs.Sixteen.{minus}
 use Rattle.wire.proofs.BoolLaws.{is-true, both, beq-eq, le-or-lt, pos-eqb, cond-not}
 use Rattle.wire.proofs.ListsLaws.{from}
 use Rattle.frame.specs.FrameTable.{dataLength}
-use Rattle.frame.specs.Push.{bodySizeAs, pushOf, emptyPartial}
+use Rattle.frame.specs.Push.{bodySizeAs, emptyPartial}
 use Rattle.frame.specs.RunTable.{waits}
 use Rattle.frame.specs.Reach.{reachableOf}
 use Rattle.frame.specs.declared.Partial.{Partial}
@@ -32,17 +32,17 @@ use Rattle.command.specs.declared.Command.the-variants as cmd
 use Rattle.command.specs.declared.Message.{Message}
 use Rattle.command.proofs.CommandTableLaws.{alike}
 use Rattle.command.proofs.CommandsProved.{data-column}
-use Rattle.state.specs.State.{isYes, songAt, withPartial, withSelected, withPlaying, toPassive}
+use Rattle.state.specs.State.{isYes, songAt, withPartial, withPlaying, toPassive}
 use Rattle.state.specs.Accepted.{acceptedOf}
 use Rattle.state.specs.declared.State.{State}
 use Rattle.state.proofs.RecordProved.{accepted-exactly, accepted-stays}
-use Rattle.board.specs.Outcome.{Outcome, gives, answers, fitted}
+use Rattle.board.specs.Outcome.{Outcome, gives, answers}
 use Rattle.board.specs.Judge.{nothing, statusOf, effectOf, judgeOf}
 use Rattle.board.specs.Calls.{fedOf, byteOf, reportOf, chunkNow, songEndOf, Performed, runOf, Call, byte, run, report, tick, songEnd, perform, bytesOf}
 use Rattle.board.specs.Rules.{Does, EffectColumn, Judged, Refused, unknown, not-offered, wrong-mode, not-legal, no-song, busy, packet-long, list-long, NumberColumn, FittedRight, StatusRight, ByteRight, RunRight, ReportRight, TickRight, Case, waiting, judged, none, more, last, in-off, chunk-long, demoHeld, demoGives, DemoRight, BackingRight, RulesRight}
 use Rattle.board.proofs.BackingLaws.{byDirect, of-none, of-drive, of-direct, exchanged, by-backing, by-slower, agree}
 use Rattle.board.proofs.JudgeLaws.{Kind, plain, play, sensors, query, kind, refusal-small, judge-mode, judge-data}
-use Rattle.board.proofs.CallsLaws.{messageOf, byte-is, byte-eight, byte-ends, byte-accepted, report-is, tick-is, tick-off, tick-silent, tick-chunk, song-end-is}
+use Rattle.board.proofs.CallsLaws.{takes, messageOf, takes-accepted, byte-waits, byte-is, byte-eight, byte-ends, byte-accepted, feed-is, run-is, report-is, tick-is, tick-off, tick-silent, tick-chunk, song-end-is}
 
 -- ---- commands
 
@@ -85,19 +85,6 @@ module _ (s : State) (image : List ℕ) (room : ℕ) where
   abbrev answer : List ℕ → List ℕ
   answer ids = answerBytes (statusOf s) image ids
 
-  playing : (n : ℕ) (p : List ℕ) → Judged s (cmd.Play n) p → 0 < songAt (s .songs) n .len → s .songs .playing ≡ 0
-      → judgeOf s (message (cmd.Play n) p) image room ≡ gives 0 (withPlaying 1 (withSelected n s))
-  unfolding judgeOf
-  playing n p j h e = rw (j .0, j .1, pos-eqb (songAt (s .songs) n .len) h, e, leb·zero room) refl
-
-  asked : (id : ℕ) (p : List ℕ) → Judged s (cmd.Sensors id) p → judgeOf s (message (cmd.Sensors id) p) image room ≡ fitted (answer (id ∷ [])) room s
-  unfolding judgeOf
-  asked id p j = rw (j .0, j .1) (cond-not (leb (length (answer (id ∷ []))) room) _ _)
-
-  listed : (n : ℕ) (p : List ℕ) → Judged s (cmd.QueryList n) p → judgeOf s (message (cmd.QueryList n) p) image room ≡ fitted (answer (take n p)) room s
-  unfolding judgeOf
-  listed n p j = rw (j .0, j .1) (cond-not (leb (length (answer (take n p))) room) _ _)
-
   refused : (m : Message) (n : ℕ) → Refused s image room m n → judgeOf s m image room ≡ gives n s
   unfolding judgeOf
   refused m n (unknown e) = rw e refl
@@ -106,11 +93,18 @@ module _ (s : State) (image : List ℕ) (room : ℕ) where
   refused m n (not-legal e a l) = judge-data s m image room e a l
   refused m n (no-song j e) = rw (j .0, j .1, e) refl
   refused m n (busy {n = k} j h e) = rw (j .0, j .1, pos-eqb (songAt (s .songs) k .len) h, e) refl
-  refused m n (packet-long {id = id} {p = p} j h) = asked id p j ∙ fitted-right (answer (id ∷ [])) room s .no-room h
-  refused m n (list-long {n = k} {p = p} j h) = listed k p j ∙ fitted-right (answer (take k p)) room s .no-room h
+  refused m n (packet-long {id = id} j h) = rw (j .0, j .1, lt-leb (length (answer (id ∷ []))) room h) refl
+  refused m n (list-long {n = k} {p = p} j h) = rw (j .0, j .1, lt-leb (length (answer (take k p))) room h) refl
 
   number-column : NumberColumn s image room
-  number-column = record { refused = refused; play = playing; sensors = asked; query = listed }
+  unfolding judgeOf
+  number-column =
+      record {
+        refused = refused;
+        play = λ n p j h e. rw (j .0, j .1, pos-eqb (songAt (s .songs) n .len) h, e, leb·zero room) refl;
+        sensors = λ id p j. rw (j .0, j .1) (cond-not (leb (length (answer (id ∷ []))) room) _ _);
+        query = λ n p j. rw (j .0, j .1) (cond-not (leb (length (answer (take n p))) room) _ _);
+      }
 
   -- from the number to its case
   abbrev Given : Message → Type 0
@@ -128,12 +122,12 @@ module _ (s : State) (image : List ℕ) (room : ℕ) where
     where
       go : (b : Bool) → s .songs .playing ≡ b → 0 < songAt (s .songs) n .len → Given (message (cmd.Play n) p)
       go true e h = named _ 6 (busy j h e)
-      go false e h = done _ _ [] (playing n p j h e)
+      go false e h = done _ _ [] (number-column .play n p j h e)
   by-kind c p (sensors id) r j =
-      ⊎-elim (λ h. done _ s (answer (id ∷ [])) (asked id p j ∙ fitted-right (answer (id ∷ [])) room s .enough h))
+      ⊎-elim (λ h. done _ s (answer (id ∷ [])) (number-column .sensors id p j ∙ fitted-right (answer (id ∷ [])) room s .enough h))
       (λ h. named _ 7 (packet-long j h)) (le-or-lt (length (answer (id ∷ []))) room)
   by-kind c p (query n) r j =
-      ⊎-elim (λ h. done _ s (answer (take n p)) (listed n p j ∙ fitted-right (answer (take n p)) room s .enough h))
+      ⊎-elim (λ h. done _ s (answer (take n p)) (number-column .query n p j ∙ fitted-right (answer (take n p)) room s .enough h))
       (λ h. named _ 7 (list-long j h)) (le-or-lt (length (answer (take n p))) room)
 
   given : (m : Message) → Given m
@@ -216,29 +210,6 @@ module _ (s : State) (t : T (acceptedOf s)) where
 abbrev numberOf : State → Call → ℕ
 numberOf s c = perform s c .outcome .number
 
--- the first byte of a run
-module _ (s : State) (t : T (acceptedOf s)) (b : ℕ) (bs image buffer : List ℕ) where
-  abbrev holds : State
-  holds = withPartial (pushOf (s .partial) b .partial) s
-
-  run-last : pushOf (s .partial) b .complete ≡ true → numberOf s (run (b ∷ bs) image buffer) ≡ numberOf s (byte b image buffer)
-  run-last e =
-      let other : byteOf s b image (length buffer) .number ≡ 9 → ⊥ =
-      λ n. subst T (sym e ∙ byte-ends s b image (length buffer) t ∙ ap (λ (k : ℕ). not (eqb k 9)) n) tt in
-      ap (λ (x : Performed). x .outcome .number) (run-right s t image (length buffer) .last b bs other)
-
-  module _ (h : b < 256) (e : pushOf (s .partial) b .complete ≡ false) where
-    taken : byteOf s b image (length buffer) ≡ gives 9 holds
-    taken = byte-right s t b image (length buffer) .waits e
-
-    holds-accepted : T (acceptedOf holds)
-    holds-accepted = subst (λ (o : Outcome). T (acceptedOf (o .state))) taken (byte-accepted s b image (length buffer) t h)
-
-    run-more : numberOf s (run (b ∷ bs) image buffer) ≡ numberOf holds (run bs image buffer)
-    run-more =
-        ap (λ (x : Performed). x .outcome .number) (run-right s t image (length buffer) .more b bs h (ap (λ (o : Outcome). o .number) taken))
-        ∙ ap (λ (o : Outcome). runOf (o .state) bs image (length buffer) .outcome .number) taken
-
 in-case : (s : State) → T (acceptedOf s) → (c : Call) → T (allBytes (bytesOf c)) → (n : ℕ) → Case s c n → numberOf s c ≡ n
 unfolding chunkNow
 in-case s t c u n (waiting {b = b} {image = image} {buffer = buffer} e) =
@@ -250,11 +221,15 @@ in-case s t c u n (none {image = image} {buffer = buffer}) =
 in-case s t c u n (more {b = b} {bs = bs} {image = image} {buffer = buffer} e r) =
     let v = and-yes (isByte b) (allBytes bs) u in
     let h = ltb→lt b 256 (v .0) in
-    run-more s t b bs image buffer h e
-    ∙ in-case (holds s t b bs image buffer) (holds-accepted s t b bs image buffer h e) (run bs image buffer) (v .1) n r
+    let w = byte-waits s b image (length buffer) t e in
+    ap (λ (x : Performed). x .outcome .number) (run-right s t image (length buffer) .more b bs h (ap (λ (o : Outcome). o .number) w))
+    ∙ ap (λ (o : Outcome). runOf (o .state) bs image (length buffer) .outcome .number) w
+    ∙ in-case (takes s b) (takes-accepted s b t h) (run bs image buffer) (v .1) n r
 in-case s t c u n (last {b = b} {bs = bs} {image = image} {buffer = buffer} e r) =
-    let v = and-yes (isByte b) (allBytes bs) u in
-    run-last s t b bs image buffer e ∙ in-case s t (byte b image buffer) (yes-and (isByte b) true (v .0) tt) n r
+    let ends = sym e ∙ byte-ends s b image (length buffer) t in
+    ap (λ (x : Performed). x .outcome .number)
+    (run-right s t image (length buffer) .last b bs (λ d. subst T (ends ∙ ap (λ (k : ℕ). not (eqb k 9)) d) tt))
+    ∙ in-case s t (byte b image buffer) (yes-and (isByte b) true (and-yes (isByte b) (allBytes bs) u .0) tt) n r
 in-case s t c u n (in-off {image = image} {buffer = buffer} e) = ap (λ (o : Outcome). o .number) (tick-right s t image (length buffer) .in-off e)
 in-case s t c u n (chunk-long {image = image} {buffer = buffer} m e h l) =
     ap (λ (o : Outcome). o .number) (tick-right s t image (length buffer) .chunk m e h ∙ fitted-right (chunkNow s image) (length buffer) s .no-room l)
@@ -268,26 +243,24 @@ byte-case s t b image buffer =
     byte-is s b image (length buffer) (λ (o : Outcome). Named s (byte b image buffer) (o .number)) (λ d. absurd (subst T d t)) (λ v e h. waiting e)
     (λ v e h. judged e (given (withPartial emptyPartial s) image (length buffer) (messageOf s b) h))
 
-run-case : (image buffer bs : List ℕ) (s : State) → T (acceptedOf s) → T (allBytes bs) → Named s (run bs image buffer) (numberOf s (run bs image buffer))
-run-case image buffer [] s t u =
-    subst (Named s (run [] image buffer)) (sym (ap (λ (x : Performed). x .outcome .number) (run-right s t image (length buffer) .none))) (λ h. none)
-run-case image buffer (b ∷ bs) s t u =
-    let v = and-yes (isByte b) (allBytes bs) u in
-    let h = ltb→lt b 256 (v .0) in
-    go h (λ e. run-case image buffer bs (holds s t b bs image buffer) (holds-accepted s t b bs image buffer h e) (v .1)) (pushOf (s .partial) b .complete) refl
-  where
-    next : State
-    next = holds s t b bs image buffer
-
-    go : b < 256 → (pushOf (s .partial) b .complete ≡ false → Named next (run bs image buffer) (numberOf next (run bs image buffer)))
-        → (c : Bool) → pushOf (s .partial) b .complete ≡ c → Named s (run (b ∷ bs) image buffer) (numberOf s (run (b ∷ bs) image buffer))
-    go h i true e = subst (Named s (run (b ∷ bs) image buffer)) (sym (run-last s t b bs image buffer e)) (λ z. last e (byte-case s t b image buffer z))
-    go h i false e = subst (Named s (run (b ∷ bs) image buffer)) (sym (run-more s t b bs image buffer h e)) (λ z. more e (i e z))
+run-case : (s : State) → T (acceptedOf s) → (bs image buffer : List ℕ) → T (allBytes bs)
+    → Named s (run bs image buffer) (numberOf s (run bs image buffer))
+run-case s t bs image buffer u =
+    run-is image (length buffer) (λ (y : Performed). Named s (run bs image buffer) (y .outcome .number)) s bs (λ d. absurd (subst T d t))
+    (λ v. feed-is image (length buffer)
+    (λ (x : State) (bs : List ℕ) (y : Performed). T (acceptedOf x) → T (allBytes bs) → Named x (run bs image buffer) (y .outcome .number))
+    (λ x v w h. none)
+    (λ x b bs y n i v w h.
+    let a = and-yes (isByte b) (allBytes bs) w in
+    more (byte-ends x b image (length buffer) v ∙ ap (λ (k : ℕ). not (eqb k 9)) n) (i (takes-accepted x b v (ltb→lt b 256 (a .0))) (a .1) h))
+    (λ x b bs n v w h.
+    last (byte-ends x b image (length buffer) v ∙ ap not (ne-eqb (byteOf x b image (length buffer) .number) 9 n)) (byte-case x v b image buffer h))
+    s bs t u)
 
 call-case : (s : State) → T (acceptedOf s) → (c : Call) → T (allBytes (bytesOf c)) → Named s c (numberOf s c)
 unfolding chunkNow
 call-case s t (byte b image buffer) u = byte-case s t b image buffer
-call-case s t (run bs image buffer) u = run-case image buffer bs s t u
+call-case s t (run bs image buffer) u = run-case s t bs image buffer u
 call-case s t (report drop cliff charger) u =
     report-is (λ (o : Outcome). Named s (report drop cliff charger) (o .number)) s drop cliff charger (λ d. absurd (subst T d t)) (λ v h. absurd (h refl))
     (λ v h. absurd (h refl))

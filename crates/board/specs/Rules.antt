@@ -12,7 +12,7 @@ use lib.Signed.{ltZ}
 use lib.ListN.{length, take}
 use Rattle.wire.specs.Lists.{allBytes}
 use Rattle.wire.specs.Sixteen.{minus}
-use Rattle.frame.specs.Push.{pushOf, stored, emptyPartial}
+use Rattle.frame.specs.Push.{pushOf, stored, emptyPartial, nextOf}
 use Rattle.frame.specs.RunTable.{waits}
 use Rattle.frame.specs.declared.Partial.{Partial}
 use Rattle.packet.specs.Packets.{answerBytes, chunkBytes}
@@ -178,7 +178,7 @@ pub data Case : State → Call → ℕ → Type 0 where
   -- a run: no byte; a byte that waits, and the rest's case; that of a byte that ends its frame
   none : {s : State} {image buffer : List ℕ} → Case s (run [] image buffer) 9
   more : {s : State} {b n : ℕ} {bs image buffer : List ℕ} → pushOf (s .partial) b .complete ≡ false
-      → Case (withPartial (pushOf (s .partial) b .partial) s) (run bs image buffer) n → Case s (run (b ∷ bs) image buffer) n
+      → Case (withPartial (nextOf (s .partial) b) s) (run bs image buffer) n → Case s (run (b ∷ bs) image buffer) n
   last : {s : State} {b n : ℕ} {bs image buffer : List ℕ} → pushOf (s .partial) b .complete ≡ true
       → Case s (byte b image buffer) n → Case s (run (b ∷ bs) image buffer) n
   -- a tick
