@@ -101,7 +101,7 @@ module _ (s : State) (image : List ℕ) (room : ℕ) where
   number-column =
       record {
         refused = refused;
-        play = λ n p j h e. rw (j .0, j .1, pos-eqb (songAt (s .songs) n .len) h, e, leb·zero room) refl;
+        play = λ n p j h e. rw (j .0, j .1, pos-eqb (songAt (s .songs) n .len) h, ne-eqb (s .songs .playing) 1 e, leb·zero room) refl;
         sensors = λ id p j. rw (j .0, j .1) (cond-not (leb (length (answer (id ∷ []))) room) _ _);
         query = λ n p j. rw (j .0, j .1) (cond-not (leb (length (answer (take n p))) room) _ _);
       }
@@ -118,11 +118,11 @@ module _ (s : State) (image : List ℕ) (room : ℕ) where
 
   by-kind : (c : Command) (p : List ℕ) → Kind p c → refusalOf c ≡ 0 → Judged s c p → Given (message c p)
   by-kind c p (plain e) r j = done (message c p) _ _ (does c p r e s image room (j .0) (j .1))
-  by-kind c p (play n) r j = ⊎-elim (λ e. named _ 5 (no-song j e)) (λ h. go (s .songs .playing) refl h) (eq-zero-or-pos (songAt (s .songs) n .len))
+  by-kind c p (play n) r j = ⊎-elim (λ e. named _ 5 (no-song j e)) (λ h. go (isYes (s .songs .playing)) refl h) (eq-zero-or-pos (songAt (s .songs) n .len))
     where
-      go : (b : Bool) → s .songs .playing ≡ b → 0 < songAt (s .songs) n .len → Given (message (cmd.Play n) p)
-      go true e h = named _ 6 (busy j h e)
-      go false e h = done _ _ [] (number-column .play n p j h e)
+      go : (b : Bool) → isYes (s .songs .playing) ≡ b → 0 < songAt (s .songs) n .len → Given (message (cmd.Play n) p)
+      go true e h = named _ 6 (busy j h (eqb-true (s .songs .playing) 1 e))
+      go false e h = done _ _ [] (number-column .play n p j h (eqb-false (s .songs .playing) 1 e))
   by-kind c p (sensors id) r j =
       ⊎-elim (λ h. done _ s (answer (id ∷ [])) (number-column .sensors id p j ∙ fitted-right (answer (id ∷ [])) room s .enough h))
       (λ h. named _ 7 (packet-long j h)) (le-or-lt (length (answer (id ∷ []))) room)
@@ -268,9 +268,9 @@ call-case s t (tick image buffer) u =
     tick-is (λ (o : Outcome). Named s (tick image buffer) (o .number)) s image (length buffer) (λ d. absurd (subst T d t)) (λ e h. in-off e)
     (λ h. absurd (h refl)) (λ l h. absurd (h refl))
     (λ m e l h.
-    let on = both (s .stream .on) (not (eqb (s .stream .count) 0)) e in
+    let on = both (isYes (s .stream .on)) (not (eqb (s .stream .count) 0)) e in
     let some = eqb-false (s .stream .count) 0 (not-true (eqb (s .stream .count) 0) (on .1)) in
-    chunk-long m (on .0) (omega arith) l)
+    chunk-long m (eqb-true (s .stream .on) 1 (on .0)) (omega arith) l)
 call-case s t songEnd u =
     song-end-is (λ (o : Outcome). Named s songEnd (o .number)) s (λ d. absurd (subst T d t)) (λ v h. absurd (h refl))
 

@@ -89,7 +89,7 @@ pub data Refused (s : State) (image : List ℕ) (room : ℕ) : Message → ℕ �
 -- THEOREM: what a refusal leaves, and what 141, 142 and 149 do
 pub record NumberColumn (s : State) (image : List ℕ) (room : ℕ) : Type 0 where
   pub refused : (m : Message) (n : ℕ) → Refused s image room m n → judgeOf s m image room ≡ gives n s
-  pub play : (n : ℕ) (p : List ℕ) → Judged s (cmd.Play n) p → 0 < songAt (s .songs) n .len → s .songs .playing ≡ 0
+  pub play : (n : ℕ) (p : List ℕ) → Judged s (cmd.Play n) p → 0 < songAt (s .songs) n .len → (s .songs .playing ≡ 1 → ⊥)
       → judgeOf s (message (cmd.Play n) p) image room ≡ gives 0 (withPlaying 1 (withSelected n s))
   -- the packets, or 7
   pub sensors : (id : ℕ) (p : List ℕ) → Judged s (cmd.Sensors id) p
