@@ -5,12 +5,12 @@ use mathlib.Core.Bool.{Bool, true, false, cond}
 use mathlib.Core.List.{List, [], _∷_, _++_, append-assoc, append-nil}
 use mathlib.Core.Logic.{⊎-elim}
 use Prim.Native.Nat.{ℕ, suc, _+_, _-_, _≤_, _<_, min}
-use native.Mathlib.Nat.{eq-zero-or-pos}
+use native.Mathlib.Nat.{eq-zero-or-pos, add-zero, sub-zero}
 use native.Mathlib.Omega.{arith}
 use lib.Dec.{T, eqb}
 use lib.ListN.{length, getD, take, length-append, List·getD-append}
 use lib.Seq.{take-suc, length-take-le, getD-take}
-use borrow.Author.Tests.{le-leb, eq-eqb, ne-eqb}
+use borrow.Author.Tests.{le-leb, lt-leb, eq-eqb, ne-eqb}
 use Rattle.wire.specs.Lists.{snoc}
 use Rattle.wire.specs.Buffer.{placed}
 use Rattle.wire.proofs.BoolLaws.{cond-true, cond-false, pos-eqb, eqb-iff}
@@ -20,7 +20,7 @@ use Rattle.frame.specs.Absorb.{counted, keeps, bodyOf, absorbOf, Waits, 
 use Rattle.frame.specs.Reach.{reachableOf}
 use Rattle.frame.specs.declared.Partial.{Partial}
 use Rattle.frame.specs.declared.Absorbed.{Absorbed}
-use Rattle.frame.proofs.PushLaws.{stored-fits, Agree, stores-agree, partial-eq, pushed-eq, push-stored, push-skipped}
+use Rattle.frame.proofs.PushLaws.{stored-fits, Agree, stores-agree}
 use Rattle.frame.proofs.ReachLaws.{Stage, in-header, storing, skipping, places-of, stage-of}
 
 -- ---- what is absorbed, one equation for each case
@@ -69,27 +69,12 @@ module _ (p : Partial) (t : T (reachableOf p)) (h : 0 < p .remaining) where
       at (storing a b r s e) = let f = stored-fits (p .bytes) (places-of p t .small) k in (a, omega arith)
       at (skipping b r s e) = absurd (subst T (sym k ∙ s) tt)
 
-  module _ (bs : List ℕ) (a : length bs ≤ p .remaining) where
-    abbrev left : List ℕ → ℕ → Pushed
-    left bytes count =
-        record { partial = record { bytes = bytes; count = count; remaining = p .remaining - length bs }; complete = eqb (p .remaining) (length bs) }
+  kept : storesBody (p .bytes) ≡ true → (n : ℕ) → n ≤ p .remaining → keeps p n ≡ true
+  kept k n a = let r = room k in simp (k, le-leb n 35 (omega arith), le-leb (p .count) (35 - n) (omega arith))
 
-    body-stored : storesBody (p .bytes) ≡ true → bodyOf p bs ≡ left (placed bs (p .count) (p .bytes)) (p .count + length bs)
-    body-stored k =
-        let r = room k in
-        simp (k, le-leb (length bs) 35 (omega arith), le-leb (p .count) (35 - length bs) (omega arith))
-
-    body-skipped : storesBody (p .bytes) ≡ false → bodyOf p bs ≡ left (p .bytes) (p .count)
-    body-skipped k = simp k
-
-  body-none : bodyOf p [] .partial ≡ p
-  body-none = go (storesBody (p .bytes)) refl
-    where
-      go : (k : Bool) → storesBody (p .bytes) ≡ k → bodyOf p [] .partial ≡ p
-      go true k =
-          ap (λ (x : Pushed). x .partial) (body-stored [] (omega arith) k)
-          ∙ partial-eq _ (p .bytes) (p .count + 0) (p .count) (p .remaining - 0) (p .remaining) (placed-nil (p .count) (p .bytes)) (omega arith) (omega arith)
-      go false k = ap (λ (x : Pushed). x .partial) (body-skipped [] (omega arith) k) ∙ partial-eq (p .bytes) (p .bytes) (p .count) (p .count) (p .remaining - 0) (p .remaining) refl refl (omega arith)
+  body-none : (k : Bool) → storesBody (p .bytes) ≡ k → bodyOf p [] .partial ≡ p
+  body-none true k = simp (kept k 0 (omega arith), placed-nil (p .count) (p .bytes), add-zero (p .count), sub-zero (p .remaining))
+  body-none false k = simp (k, sub-zero (p .remaining))
 
   -- a byte pushed after them
   module _ (bs : List ℕ) (b : ℕ) (a : length bs < p .remaining) where
@@ -99,43 +84,39 @@ module _ (p : Partial) (t : T (reachableOf p)) (h : 0 < p .remaining) where
     more-length : length more ≡ length bs + 1
     more-length = length-append bs (b ∷ [])
 
+    one-less : p .remaining - length bs - 1 ≡ p .remaining - length more
+    one-less = let n = more-length in omega arith
+
     is-last : eqb (p .remaining - length bs) 1 ≡ eqb (p .remaining) (length more)
     is-last = let n = more-length in eqb-iff (p .remaining - length bs) 1 (p .remaining) (length more) (λ e. omega arith) (λ e. omega arith)
 
-    push-more : pushOf (bodyOf p bs .partial) b ≡ bodyOf p more
-    push-more = go (storesBody (p .bytes)) refl
-      where
-        go : (k : Bool) → storesBody (p .bytes) ≡ k → pushOf (bodyOf p bs .partial) b ≡ bodyOf p more
-        go true k =
-            let n = more-length in
-            let r = room k in
-            let l = places-of p t .long in
-            let d = p .bytes in
-            let i = p .count in
-            let same = placed-agree bs (headerOf d) i d (r .0) (omega arith) in
-            let q : Partial = record { bytes = placed bs i d; count = i + length bs; remaining = p .remaining - length bs } in
-            let w = length-placed bs i d (omega arith) in
-            ap (λ (x : Pushed). pushOf (x .partial) b) (body-stored bs (omega arith) k)
-            ∙ push-stored q b (omega arith) (stores-agree (q .bytes) d same ∙ k) (omega arith)
-            ∙ pushed-eq _ _ _ _
-            (partial-eq _ _ (i + length bs + 1) (i + length more) (p .remaining - length bs - 1) (p .remaining - length more)
-            (placed-one b (i + length bs) (q .bytes) (omega arith) ∙ placed-append bs (b ∷ []) i d (omega arith)) (omega arith) (omega arith))
-            is-last
-            ∙ sym (body-stored more (omega arith) k)
-        go false k =
-            let n = more-length in
-            ap (λ (x : Pushed). pushOf (x .partial) b) (body-skipped bs (omega arith) k)
-            ∙ push-skipped _ b (omega arith) k
-            ∙ pushed-eq _ _ _ _
-            (partial-eq (p .bytes) (p .bytes) (p .count) (p .count) (p .remaining - length bs - 1) (p .remaining - length more) refl refl (omega arith))
-            is-last
-            ∙ sym (body-skipped more (omega arith) k)
+    push-more : (k : Bool) → storesBody (p .bytes) ≡ k → pushOf (bodyOf p bs .partial) b ≡ bodyOf p more
+    push-more true k =
+        let n = more-length in
+        let r = room k in
+        let l = places-of p t .long in
+        let d = p .bytes in
+        let i = p .count in
+        let w = length-placed bs i d (omega arith) in
+        let at : i + length bs + 1 ≡ i + length more = omega arith in
+        simp (
+          kept k (length bs) (omega arith),
+          kept k (length more) (omega arith),
+          pos-eqb (p .remaining - length bs) (omega arith),
+          lt-leb 35 (i + length bs) (omega arith),
+          stores-agree (placed bs i d) d (placed-agree bs (headerOf d) i d (r .0) (omega arith)) ∙ k,
+          placed-one b (i + length bs) (placed bs i d) (omega arith) ∙ placed-append bs (b ∷ []) i d (omega arith),
+          at,
+          one-less,
+          is-last,
+        )
+    push-more false k = simp (k, pos-eqb (p .remaining - length bs) (omega arith), one-less, is-last)
 
   -- fewer than remain complete nothing
   body-waits : (bs front : List ℕ) → length bs + length front < p .remaining → Waits (bodyOf p bs .partial) front (bodyOf p (bs ++ front) .partial)
   body-waits bs [] a = ap (λ (l : List ℕ). bodyOf p l .partial) (sym (append-nil bs))
   body-waits bs (b ∷ front) a =
-      let e = push-more bs b (omega arith) in
+      let e = push-more bs b (omega arith) (storesBody (p .bytes)) refl in
       let n = more-length bs b (omega arith) in
       let rest = body-waits (snoc bs b) front (omega arith) in (
         ap (λ (x : Pushed). x .complete) e ∙ ne-eqb (p .remaining) (length (snoc bs b)) (λ (z : p .remaining ≡ length (snoc bs b)). omega arith),
@@ -152,8 +133,8 @@ module _ (p : Partial) (t : T (reachableOf p)) (h : 0 < p .remaining) where
         last = getD l m 0;
         before = bodyOf p (take m l) .partial;
         taken = e;
-        waits = subst (λ (q : Partial). Waits q (take m l) (bodyOf p (take m l) .partial)) body-none (body-waits [] (take m l) (omega arith));
-        ends = push-more (take m l) (getD l m 0) (omega arith) ∙ ap (bodyOf p) (sym e);
+        waits = subst (λ (q : Partial). Waits q (take m l) (bodyOf p (take m l) .partial)) (body-none (storesBody (p .bytes)) refl) (body-waits [] (take m l) (omega arith));
+        ends = push-more (take m l) (getD l m 0) (omega arith) (storesBody (p .bytes)) refl ∙ ap (bodyOf p) (sym e);
       }
 
 steps : (p : Partial) (bs : List ℕ) → T (reachableOf p) → 0 < length bs → Steps p bs (absorbOf p bs)

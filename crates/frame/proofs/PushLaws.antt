@@ -122,10 +122,6 @@ pub partial-eq : (l m : List ℕ) (i j a b : ℕ) → l ≡ m → i ≡ j → a 
     → _≡_ {A = Partial} (record { bytes = l; count = i; remaining = a }) (record { bytes = m; count = j; remaining = b })
 partial-eq l m i j a b p q r = rw (p, q, r)
 
-pub pushed-eq : (p q : Partial) (c d : Bool) → p ≡ q → c ≡ d
-    → _≡_ {A = Pushed} (record { partial = p; complete = c }) (record { partial = q; complete = d })
-pushed-eq p q c d e f = rw (e, f)
-
 -- p with b stored, and n remaining
 abbrev pub grown : Partial → ℕ → ℕ → Partial
 grown p b n = record { bytes = set (p .bytes) (p .count) b; count = p .count + 1; remaining = n }

@@ -20,7 +20,7 @@ use Rattle.frame.specs.FrameTable.{dataLength, headerSize}
 use Rattle.frame.specs.Push.{Pushed, bodySizeAs, lengthOf, headerOf, frameSize, bodySize, storesBody, measureOf, pushOf, stored, emptyPartial, nextOf, afterOf, completed}
 use Rattle.frame.specs.Cut.{keptOf, partialOf, CompleteAtLast}
 use Rattle.frame.specs.declared.Partial.{Partial}
-use Rattle.frame.proofs.PushLaws.{header-pos, header-le, header-le-frame, stored-fits, Agree, header-agree, frame-agree, body-agree, stores-agree, partial-eq, pushed-eq, measure-waits, measure-known, push-header, push-stored, push-skipped, next-more, after-append}
+use Rattle.frame.proofs.PushLaws.{header-pos, header-le, header-le-frame, stored-fits, Agree, header-agree, frame-agree, body-agree, stores-agree, partial-eq, measure-waits, measure-known, push-header, push-stored, push-skipped, next-more, after-append}
 
 pad-agree : (n : ℕ) (l : List ℕ) → Agree n (padded 35 l) l
 pad-agree n l i h = getD-zeros l (35 - length l) i
@@ -54,6 +54,10 @@ partial-known bs l h e = ap₂ stored e (cond-false _ 0 (frameSize bs - length b
 abbrev Right : List ℕ → ℕ → Pushed → Type 0
 Right bs b r = r ≡ record { partial = partialOf (snoc bs b); complete = eqb (length (snoc bs b)) (frameSize (snoc bs b)) }
 
+pushed : (p q : Partial) (c d : Bool) → p ≡ q → c ≡ d
+    → _≡_ {A = Pushed} (record { partial = p; complete = c }) (record { partial = q; complete = d })
+pushed p q c d e f = rw (e, f)
+
 -- in the header
 module _ (bs : List ℕ) (b : ℕ) where
   abbrev more : List ℕ
@@ -75,7 +79,7 @@ module _ (bs : List ℕ) (b : ℕ) where
       ∙ ap measureOf (partial-eq _ (padded 35 more) (length bs + 1) (length more) 0 0 (set-padded 35 bs b (omega arith)) (sym n) refl) in
       ⊎-elim (λ (e : length bs + 1 ≡ headerOf more).
       grown ∙ measure-known (stored more 0) (omega arith)
-      ∙ pushed-eq _ _ _ _
+      ∙ pushed _ _ _ _
       (ap (stored more) (body-agree (padded 35 more) more same ∙ omega arith) ∙ sym (partial-known more more (omega arith) (kept-short more (omega arith))))
       (ap (λ (m : ℕ). eqb m 0) (body-agree (padded 35 more) more same)
       ∙ eqb-iff (bodySize more) 0 (length more) (frameSize more)
@@ -83,7 +87,7 @@ module _ (bs : List ℕ) (b : ℕ) where
       (λ (z : length more ≡ frameSize more). omega arith)))
       (λ (l : length bs + 1 < headerOf more).
       grown ∙ measure-waits (stored more 0) (omega arith)
-      ∙ pushed-eq _ _ _ _ (sym (partial-in-header more (omega arith)))
+      ∙ pushed _ _ _ _ (sym (partial-in-header more (omega arith)))
       (sym (ne-eqb (length more) (frameSize more) (λ (z : length more ≡ frameSize more). omega arith))))
       (eq-or-lt-of-le h)
 
@@ -106,7 +110,7 @@ module _ (bs : List ℕ) (b : ℕ) where
         let hd = header-agree more bs same in
         let f = frame-agree more bs same in
         push-stored (stored bs (frameSize bs - length bs)) b (omega arith) (stores-agree (padded 35 bs) bs (pad-agree (headerOf bs) bs) ∙ k) room
-        ∙ pushed-eq _ _ _ _
+        ∙ pushed _ _ _ _
         (partial-eq _ (padded 35 more) (length bs + 1) (length more) (frameSize bs - length bs - 1) (frameSize more - length more)
         (set-padded 35 bs b room) (sym n) (omega arith)
         ∙ sym (partial-known more more (omega arith) (kept-all more (stores-agree more bs same ∙ k))))
@@ -124,7 +128,7 @@ module _ (bs : List ℕ) (b : ℕ) where
         let e : frameSize bs - length bs - 1 ≡ frameSize more - length more = omega arith in
         push-skipped (stored (take (headerOf bs) bs) (frameSize bs - length bs)) b (omega arith)
         (stores-agree (padded 35 (take (headerOf bs) bs)) bs header-same ∙ k)
-        ∙ pushed-eq _ _ _ _
+        ∙ pushed _ _ _ _
         (ap (stored (take (headerOf bs) bs)) e
         ∙ sym
         (partial-known more (take (headerOf bs) bs) (omega arith)
@@ -200,7 +204,7 @@ last-byte (a ∷ bs) b t e =
 
 pub complete-as-sent : (bs : List ℕ) (b : ℕ) → T (allBytes bs) → length (snoc bs b) ≡ frameSize (snoc bs b)
     → pushOf (afterOf emptyPartial bs) b ≡ record { partial = partialOf (snoc bs b); complete = true }
-complete-as-sent bs b t e = last-byte bs b t e ∙ pushed-eq _ _ _ _ refl (eq-eqb (length (snoc bs b)) (frameSize (snoc bs b)) e)
+complete-as-sent bs b t e = last-byte bs b t e ∙ pushed _ _ _ _ refl (eq-eqb (length (snoc bs b)) (frameSize (snoc bs b)) e)
 
 -- ---- a frame is complete at its last byte, and not before
 

@@ -100,7 +100,7 @@ fn stores_body(length: Length, bytes: [u8; 35]) -> bool
     }
 }
 
-// A byte while the length is not known: it is stored, and where the header is complete now, its body
+// A byte while the length is not known: it is stored, and once the header is complete its body
 // remains, or the frame ends. A full frame, which no list of bytes leaves, stores nothing more.
 fn absorb_one(p: Partial, b: u8) -> Absorbed
     ensures { λ r. ⌜ r ≡ counted (measureOf (appendOf p b)) 1 ⌝ }
@@ -137,8 +137,8 @@ fn absorb_one(p: Partial, b: u8) -> Absorbed
 
 // As many bytes at once as surely belong to one frame: one while its length is not known, and then
 // those that remain; of an empty slice none. On a reachable frame they leave what they leave one by
-// one (specs/Absorb.antt, Steps). What is given on another is free in the papers: the same number is
-// taken, and bytes of a body for which there is no room are not stored.
+// one (specs/Absorb.antt, TakenAtOnce). What is given on another is free in the papers: as many are
+// taken there, and those of a body are stored only where there is room for all of them.
 pub fn absorb(p: Partial, bytes: &[u8]) -> Absorbed
     ensures { λ r. ⌜ r ≡ absorbOf p (now (bytes .entry)) ⌝ }
 {

@@ -1,4 +1,5 @@
--- `frame::absorb` meets its contract: the first test says whether the length is known, and where the body is stored the bytes are put after those held.
+-- `frame::absorb` meets its contract: the tests say which case of `absorbOf` holds, and bytes that
+-- are stored are put after those held.
 -- Assumes nothing.
 use mathlib.Core.Path.{_≡_, sym, ap, _∙_}
 use mathlib.Core.Bool.{_&&_, true, false}

@@ -1,4 +1,5 @@
--- `frame::absorb_one` meets its contract: `joined` is what the first test leaves, and the second says which case of `measureOf` holds.
+-- `frame::absorb_one` meets its contract: `joined` is what the first test leaves, and the second
+-- says which case of `measureOf` holds.
 -- Assumes nothing.
 use mathlib.Core.Path.{_≡_, sym, ap, _∙_}
 use mathlib.Core.Logic.{⊎-elim}
