@@ -7,13 +7,13 @@ use Prim.Native.Nat.{ℕ, _≤_, _<_}
 use native.Mathlib.Omega.{arith}
 use lib.Dec.{T, leb→le}
 use lib.IntN.{ℤ, pos, negsuc}
-use lib.ListN.{getD}
 use lib.Signed.{leZ, mag}
 use mir.Facts.{and-yes, or-yes, yes-and, yes-ltb}
 use mir.Syntax.{w8, w16}
 use mir.Val.{SFits}
 use Rattle.wire.specs.Lists.{all, isByte, allBytes}
 use Rattle.wire.specs.Signed.{bits8Of}
+use Rattle.wire.specs.Sixteen.{high16Of, low16Of}
 use Rattle.wire.proofs.ListsLaws.{all-append}
 use Rattle.wire.proofs.SignedLaws.{round-trip-bits}
 use Rattle.wire.proofs.SixteenLaws.{round-trip16}
@@ -25,79 +25,72 @@ use Rattle.command.proofs.VariantLaws.{every}
 
 -- ---- a number in a range
 
--- the range is one of bytes, or of the numbers of a width with a sign
-abbrev ofBytes : Range → Bool
-ofBytes r = leZ (r .last) (pos 255)
+-- it fits its item
+abbrev FitsItem : Item → Type 0
+FitsItem (byte n) = n < 256
+FitsItem (signedByte v) = SFits w8 v
+FitsItem (word v) = SFits w16 v
 
+-- the range is one of bytes, or of the numbers of a width with a sign
 abbrev ofSigned : ℕ → Range → Bool
 ofSigned most r = leZ (negsuc most) (r .first) && leZ (r .last) (pos most)
+
+abbrev ofKind : Item → Range → Bool
+ofKind (byte n) r = leZ (r .last) (pos 255)
+ofKind (signedByte v) r = ofSigned 127 r
+ofKind (word v) r = ofSigned 32767 r
 
 byte-below : (n : ℕ) (z : ℤ) → T (leZ z (pos 255)) → T (leZ (pos n) z) → n < 256
 byte-below n (pos k) t u = let a = leb→le k 255 t in let b = leb→le n k u in omega arith
 byte-below n (negsuc k) t u = absurd u
 
-signed-fits : (most : ℕ) (v a b : ℤ) → T (leZ (negsuc most) a) → T (leZ b (pos most)) → T (leZ a v) → T (leZ v b) → mag v ≤ most
-signed-fits most (pos n) a (pos k) t u x y = let p = leb→le k most u in let q = leb→le n k y in omega arith
-signed-fits most (pos n) a (negsuc k) t u x y = absurd y
-signed-fits most (negsuc n) (pos k) b t u x y = absurd x
-signed-fits most (negsuc n) (negsuc k) b t u x y = let p = leb→le k most t in let q = leb→le n k x in omega arith
+signed-below : (most : ℕ) (v a b : ℤ) → T (leZ (negsuc most) a) → T (leZ b (pos most)) → T (leZ a v) → T (leZ v b) → mag v ≤ most
+signed-below most (pos n) a (pos k) t u x y = let p = leb→le k most u in let q = leb→le n k y in omega arith
+signed-below most (pos n) a (negsuc k) t u x y = absurd y
+signed-below most (negsuc n) (pos k) b t u x y = absurd x
+signed-below most (negsuc n) (negsuc k) b t u x y = let p = leb→le k most t in let q = leb→le n k x in omega arith
 
-module _ (n : ℕ) where
-  legal-byte : (rs : List Range) → T (all ofBytes rs) → T (isLegal rs (pos n)) → n < 256
-  unfolding isIn isLegal
-  legal-byte [] t u = absurd u
-  legal-byte (r ∷ rs) t u =
-      let s = and-yes (ofBytes r) (all ofBytes rs) t in
-      ⊎-elim (λ x. byte-below n (r .last) (s .0) (and-yes (leZ (r .first) (pos n)) (leZ (pos n) (r .last)) x .1)) (λ x. legal-byte rs (s .1) x)
-      (or-yes (isIn r (pos n)) (isLegal rs (pos n)) u)
+signed-fits : (most : ℕ) (v : ℤ) (r : Range) → T (ofSigned most r) → T (isIn r v) → mag v ≤ most
+unfolding isIn
+signed-fits most v r t u =
+    let s = and-yes (leZ (negsuc most) (r .first)) (leZ (r .last) (pos most)) t in
+    let x = and-yes (leZ (r .first) v) (leZ v (r .last)) u in
+    signed-below most v (r .first) (r .last) (s .0) (s .1) (x .0) (x .1)
 
-module _ (most : ℕ) (v : ℤ) where
-  legal-signed : (rs : List Range) → T (all (ofSigned most) rs) → T (isLegal rs v) → mag v ≤ most
-  unfolding isIn isLegal
-  legal-signed [] t u = absurd u
-  legal-signed (r ∷ rs) t u =
-      let s = and-yes (ofSigned most r) (all (ofSigned most) rs) t in
-      let w = and-yes (leZ (negsuc most) (r .first)) (leZ (r .last) (pos most)) (s .0) in
-      ⊎-elim
-      (λ x. let y = and-yes (leZ (r .first) v) (leZ v (r .last)) x in signed-fits most v (r .first) (r .last) (w .0) (w .1) (y .0) (y .1))
-      (λ x. legal-signed rs (s .1) x)
-      (or-yes (isIn r v) (isLegal rs v) u)
+item-fits : (i : Item) (r : Range) → T (ofKind i r) → T (isIn r (valueOf i)) → FitsItem i
+unfolding isIn
+item-fits (byte n) r t u = byte-below n (r .last) t (and-yes (leZ (r .first) (pos n)) (leZ (pos n) (r .last)) u .1)
+item-fits (signedByte v) r t u = let h = signed-fits 127 v r t u in record { sfits = omega arith }
+item-fits (word v) r t u = let h = signed-fits 32767 v r t u in record { sfits = omega arith }
+
+legal-fits : (i : Item) (rs : List Range) → T (all (ofKind i) rs) → T (isLegal rs (valueOf i)) → FitsItem i
+unfolding isLegal
+legal-fits i [] t u = absurd u
+legal-fits i (r ∷ rs) t u =
+    let s = and-yes (ofKind i r) (all (ofKind i) rs) t in
+    ⊎-elim (item-fits i r (s .0)) (legal-fits i rs (s .1)) (or-yes (isIn r (valueOf i)) (isLegal rs (valueOf i)) u)
 
 -- ---- the numbers of a command
 
 -- each fits its item
 abbrev pub Fit : List Item → Type 0
 Fit [] = Unit {0}
-Fit (byte n ∷ is) = (n < 256) × Fit is
-Fit (signedByte v ∷ is) = SFits w8 v × Fit is
-Fit (word v ∷ is) = SFits w16 v × Fit is
+Fit (i ∷ is) = FitsItem i × Fit is
 
 -- the ranges are of their items' kinds
 abbrev kinds : List (List Range) → List Item → Bool
 kinds [] is = true
 kinds (rs ∷ rss) [] = true
-kinds (rs ∷ rss) (byte n ∷ is) = all ofBytes rs && kinds rss is
-kinds (rs ∷ rss) (signedByte v ∷ is) = all (ofSigned 127) rs && kinds rss is
-kinds (rs ∷ rss) (word v ∷ is) = all (ofSigned 32767) rs && kinds rss is
+kinds (rs ∷ rss) (i ∷ is) = all (ofKind i) rs && kinds rss is
 
 legal-fit : (rss : List (List Range)) (is : List Item) → T (kinds rss is) → T (allLegal rss (map valueOf is)) → Fit is
 legal-fit [] [] t u = tt
 legal-fit [] (i ∷ is) t u = absurd u
 legal-fit (rs ∷ rss) [] t u = absurd u
-legal-fit (rs ∷ rss) (byte n ∷ is) t u =
-    let s = and-yes (all ofBytes rs) (kinds rss is) t in
-    let x = and-yes (isLegal rs (pos n)) (allLegal rss (map valueOf is)) u in
-    (legal-byte n rs (s .0) (x .0), legal-fit rss is (s .1) (x .1))
-legal-fit (rs ∷ rss) (signedByte v ∷ is) t u =
-    let s = and-yes (all (ofSigned 127) rs) (kinds rss is) t in
-    let x = and-yes (isLegal rs v) (allLegal rss (map valueOf is)) u in
-    let h = legal-signed 127 v rs (s .0) (x .0) in
-    (record { sfits = omega arith }, legal-fit rss is (s .1) (x .1))
-legal-fit (rs ∷ rss) (word v ∷ is) t u =
-    let s = and-yes (all (ofSigned 32767) rs) (kinds rss is) t in
-    let x = and-yes (isLegal rs v) (allLegal rss (map valueOf is)) u in
-    let h = legal-signed 32767 v rs (s .0) (x .0) in
-    (record { sfits = omega arith }, legal-fit rss is (s .1) (x .1))
+legal-fit (rs ∷ rss) (i ∷ is) t u =
+    let s = and-yes (all (ofKind i) rs) (kinds rss is) t in
+    let x = and-yes (isLegal rs (valueOf i)) (allLegal rss (map valueOf is)) u in
+    (legal-fits i rs (s .0) (x .0), legal-fit rss is (s .1) (x .1))
 
 -- of every row, by one test over the variants
 all-kinds : (c : Command) → T (kinds (rowOf c .legal .numbers) (formOf c .items))
@@ -113,19 +106,14 @@ numbers-fit m t =
 
 -- ---- as bytes
 
+item-bytes : (i : Item) → FitsItem i → T (allBytes (sentAs i))
+item-bytes (byte n) f = yes-and (isByte n) true (yes-ltb f) tt
+item-bytes (signedByte v) f = yes-and (isByte (bits8Of v)) true (yes-ltb (round-trip-bits 128 .bits-fit v (f .sfits))) tt
+item-bytes (word v) f =
+    let h : high16Of v < 256 = round-trip16 .high-byte v f in
+    let l : low16Of v < 256 = round-trip16 .low-byte v in
+    yes-and (isByte (high16Of v)) (isByte (low16Of v) && true) (yes-ltb h) (yes-and (isByte (low16Of v)) true (yes-ltb l) tt)
+
 pub sent-bytes : (is : List Item) → Fit is → T (allBytes (allSent is))
 sent-bytes [] f = tt
-sent-bytes (byte n ∷ is) f = yes-and (isByte n) (allBytes (allSent is)) (yes-ltb (f .0)) (sent-bytes is (f .1))
-sent-bytes (signedByte v ∷ is) f =
-    let h = round-trip-bits 128 .bits-fit v (f .0 .sfits) in
-    yes-and (isByte (bits8Of v)) (allBytes (allSent is)) (yes-ltb h) (sent-bytes is (f .1))
-sent-bytes (word v ∷ is) f =
-    let h = round-trip16 .high-byte v (f .0) in
-    let l = round-trip16 .low-byte v in
-    let first = getD (sentAs (word v)) 0 0 in
-    let second = getD (sentAs (word v)) 1 0 in
-    let a : first < 256 = omega arith in
-    let b : second < 256 = omega arith in
-    all-append isByte (sentAs (word v)) (allSent is)
-    (yes-and (isByte first) (isByte second && true) (yes-ltb a) (yes-and (isByte second) true (yes-ltb b) tt))
-    (sent-bytes is (f .1))
+sent-bytes (i ∷ is) f = all-append isByte (sentAs i) (allSent is) (item-bytes i (f .0)) (sent-bytes is (f .1))
