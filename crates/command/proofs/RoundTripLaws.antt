@@ -32,7 +32,7 @@ use Rattle.command.specs.declared.Command.{Command}
 use Rattle.command.specs.declared.Message.{Message}
 use Rattle.command.specs.declared.Command.the-variants.{Start, Baud, Control, Safe, Full, Power, Demo, Spot, Cover, Dock, Drive, Direct, Drivers, Duties, Leds, Outputs, Infrared, Song, Play, Sensors, QueryList, Stream, Pause, Unknown, NotOffered}
 use Rattle.command.proofs.LayoutLaws.{stored-all, small, encode-length}
-use Rattle.command.proofs.CommandTableLaws.{in-range, up-to}
+use Rattle.command.proofs.CommandTableLaws.{in-range, query-legal, stream-legal}
 use Rattle.command.proofs.FitLaws.{Fit, numbers-fit, sent-bytes}
 
 -- ---- a legal command's frame, whatever follows its head
@@ -48,12 +48,7 @@ laid-as : {c : Command} → T (ltb (opcodeOf c) 256) → ((rest : List ℕ) → 
     → Laid c
 laid-as t b s k = record { opcode = t; back = b; size = s; stores = k }
 
--- what the rows say of counts
-ids-le : (ids : ℕ) (rule : Bool) → T ((isLegal (upTo 16) (pos ids) && true) && rule) → ids ≤ 16
-ids-le ids rule t =
-    let s = and-yes (isLegal (upTo 16) (pos ids) && true) rule t in
-    leb→le ids 16 (subst T (up-to 16 ids) (and-yes (isLegal (upTo 16) (pos ids)) true (s .0) .0))
-
+-- a legal song's length
 notes-le : (number notes : ℕ) (rule : Bool)
     → T ((isLegal (upTo 15) (pos number) && (isLegal ((pos 1 to pos 16) ∷ []) (pos notes) && true)) && rule) → notes ≤ 16
 notes-le number notes rule t =
@@ -88,10 +83,10 @@ laid (Song number notes) p f t =
 laid (Play number) p f t = laid-as tt (λ r. refl) (λ r. refl) (λ r. refl)
 laid (Sensors id) p f t = laid-as tt (λ r. refl) (λ r. refl) (λ r. refl)
 laid (QueryList ids) p f t =
-    let h = ids-le ids (listableOf (take (storedCount ids) p)) t in
+    let h = leb→le ids 16 (and-yes (leb ids 16) (listableOf (take ids p)) (subst T (query-legal ids p) t) .0) in
     laid-as tt (λ r. refl) (λ r. omega (arith, stored-all ids h)) (λ r. le-leb ids 16 h)
 laid (Stream ids) p f t =
-    let h = ids-le ids (streamableOf (take (storedCount ids) p)) t in
+    let h = leb→le ids 16 (and-yes (leb ids 16) (streamableOf (take ids p)) (subst T (stream-legal ids p) t) .0) in
     laid-as tt (λ r. refl) (λ r. omega (arith, stored-all ids h)) (λ r. le-leb ids 16 h)
 laid (Pause on) p f t = laid-as tt (λ r. refl) (λ r. refl) (λ r. refl)
 laid (Unknown op) p f t = absurd t

@@ -181,19 +181,6 @@ song number notes = 140 ∷ number ∷ notes ∷ replicate (2 * notes) 255
 abbrev list : ℕ → List ℕ → List ℕ
 list op ids = op ∷ length ids ∷ ids
 
--- the ids' sizes and number make 255, and 256
-abbrev makes255 : List ℕ
-makes255 = 6 ∷ 6 ∷ 6 ∷ 6 ∷ 0 ∷ 1 ∷ 7 ∷ 19 ∷ []
-
-abbrev makes256 : List ℕ
-makes256 = 6 ∷ 6 ∷ 6 ∷ 6 ∷ 0 ∷ 1 ∷ 19 ∷ 19 ∷ []
-
-abbrev idLists : List (List ℕ)
-idLists = [] ∷ (0 ∷ []) ∷ (1 ∷ 41 ∷ []) ∷ (42 ∷ []) ∷ replicate 15 7 ∷ replicate 16 42 ∷ makes255 ∷ []
-
-abbrev notIdLists : List (List ℕ)
-notIdLists = (43 ∷ []) ∷ (255 ∷ []) ∷ (7 ∷ 43 ∷ []) ∷ replicate 17 7 ∷ replicate 18 7 ∷ []
-
 abbrev pub dataCases : List DataCase
 dataCases =
     taken (map (λ v. words 137 v (pos 500)) speeds)
@@ -212,14 +199,9 @@ dataCases =
     -- songs; W8
     ∷ taken (song 0 1 ∷ song 1 2 ∷ song 14 15 ∷ song 15 16 ∷ (140 ∷ 0 ∷ 1 ∷ 0 ∷ 0 ∷ []) ∷ [])
     ∷ notTaken (song 0 0 ∷ song 0 17 ∷ song 0 18 ∷ (140 ∷ 0 ∷ 255 ∷ []) ∷ song 16 1 ∷ song 17 16 ∷ (140 ∷ 255 ∷ 1 ∷ 0 ∷ 0 ∷ []) ∷ [])
-    -- lists; W12
-    ∷ taken (map (list 149) idLists)
-    ∷ notTaken (map (list 149) notIdLists)
-    ∷ taken (list 149 makes256 ∷ list 149 (replicate 16 6) ∷ [])
-    ∷ taken (map (list 148) idLists)
-    ∷ notTaken (map (list 148) notIdLists)
-    ∷ taken (list 148 (replicate 4 6) ∷ [])
-    ∷ notTaken (list 148 (replicate 5 6) ∷ list 148 makes256 ∷ list 148 (replicate 16 6) ∷ [])
+    -- W12, and the ends of N; `query-legal` and `stream-legal` tell of every list
+    ∷ taken (list 149 [] ∷ list 149 (replicate 16 42) ∷ list 148 [] ∷ list 148 (replicate 4 6) ∷ list 148 (replicate 16 7) ∷ [])
+    ∷ notTaken (list 149 (replicate 17 7) ∷ list 148 (replicate 5 6) ∷ list 148 (replicate 17 7) ∷ [])
     -- a count alone, past the legal ones
     ∷ notTaken ((148 ∷ 17 ∷ []) ∷ (148 ∷ 255 ∷ []) ∷ (149 ∷ 17 ∷ []) ∷ (149 ∷ 255 ∷ []) ∷ [])
     -- what is refused as such
