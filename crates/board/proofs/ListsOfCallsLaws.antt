@@ -4,7 +4,7 @@ use mathlib.Core.Path.{_≡_, refl, sym, ap, ap₂, subst, _∙_}
 use mathlib.Core.Bool.{Bool, true, false, _&&_}
 use mathlib.Core.List.{List, [], _∷_, _++_, map, map-append}
 use Prim.Native.Nat.{ℕ, suc, _+_}
-use native.Mathlib.Omega.{arith}
+use native.Mathlib.Numerals.{one-add}
 use lib.Dec.{T, eqb}
 use lib.ListN.{length, take, length-map}
 use borrow.Author.Tests.{eqb-true, ne-eqb}
@@ -62,36 +62,19 @@ alike : (x y : Performed) → x ≡ y → Alike x y
 alike x y e = (ap (λ (z : Performed). z .outcome .state) e, ap (λ (z : Performed). z .read) e)
 
 module _ (image : List ℕ) (room : ℕ) where
-  fed-bytes : (bs : List ℕ) (s : State) → bytesAt (readingsOf s bs image room) ≡ take (feed s bs image room .read) bs
-  fed-bytes [] s = refl
-  fed-bytes (b ∷ bs) s = go (first-fed s b bs image room) (fed-bytes bs (byteOf s b image room .state))
+  -- the readings are of the bytes that are counted
+  abbrev Counted : State → List ℕ → Type 0
+  Counted s bs =
+      (bytesAt (readingsOf s bs image room) ≡ take (feed s bs image room .read) bs) × (length (readingsOf s bs image room) ≡ feed s bs image room .read)
+
+  fed-counted : (bs : List ℕ) (s : State) → Counted s bs
+  fed-counted [] s = (refl, refl)
+  fed-counted (b ∷ bs) s = go (first-fed s b bs image room) (fed-counted bs (byteOf s b image room .state))
     where
-      u : State
-      u = byteOf s b image room .state
-
-      taken : Performed → List ℕ
-      taken x = take (x .read) (b ∷ bs)
-
-      go : Fed s b bs image room → bytesAt (readingsOf u bs image room) ≡ take (feed u bs image room .read) bs
-          → bytesAt (readingsOf s (b ∷ bs) image room) ≡ take (feed s (b ∷ bs) image room .read) (b ∷ bs)
-      go (none e f r) i = ap bytesAt r ∙ sym (ap taken f)
-      go (more t n f r) i =
-          let e : 1 + feed u bs image room .read ≡ suc (feed u bs image room .read) = omega arith in
-          ap bytesAt r ∙ ap (λ (l : List ℕ). b ∷ l) i ∙ sym (ap taken f ∙ ap (λ (k : ℕ). take k (b ∷ bs)) e)
-      go (last t f r) i = ap bytesAt r ∙ sym (ap taken f)
-
-  fed-count : (bs : List ℕ) (s : State) → length (readingsOf s bs image room) ≡ feed s bs image room .read
-  fed-count [] s = refl
-  fed-count (b ∷ bs) s = go (first-fed s b bs image room) (fed-count bs (byteOf s b image room .state))
-    where
-      u : State
-      u = byteOf s b image room .state
-
-      go : Fed s b bs image room → length (readingsOf u bs image room) ≡ feed u bs image room .read
-          → length (readingsOf s (b ∷ bs) image room) ≡ feed s (b ∷ bs) image room .read
-      go (none e f r) i = ap length r ∙ sym (alike _ _ f .1)
-      go (more t n f r) i = ap length r ∙ omega (arith, i) ∙ sym (alike _ _ f .1)
-      go (last t f r) i = ap length r ∙ sym (alike _ _ f .1)
+      go : Fed s b bs image room → Counted (byteOf s b image room .state) bs → Counted s (b ∷ bs)
+      go (none e f r) i = rw (f, r) (refl, refl)
+      go (more t n f r) i = rw (f, r, one-add (feed (byteOf s b image room .state) bs image room .read)) (ap (λ (l : List ℕ). b ∷ l) (i .0), ap suc (i .1))
+      go (last t f r) i = rw (f, r) (refl, refl)
 
   -- a byte is a slice of one
   byte-as-fed : (s : State) (b : ℕ) → Alike (performed (byteOf s b image room) (readBy (byteOf s b image room))) (feed s (b ∷ []) image room)
@@ -122,16 +105,16 @@ module _ (image : List ℕ) (room : ℕ) where
 
 pub same-bytes : (s : State) (c : Call) → bytesAt (readingsIn s c) ≡ bytesIn s c
 same-bytes s (byte b image buffer) =
-    fed-bytes image (length buffer) (b ∷ []) s ∙ sym (ap (λ (k : ℕ). take k (b ∷ [])) (byte-as-fed image (length buffer) s b .1))
+    fed-counted image (length buffer) (b ∷ []) s .0 ∙ sym (ap (λ (k : ℕ). take k (b ∷ [])) (byte-as-fed image (length buffer) s b .1))
 same-bytes s (run bs image buffer) =
-    fed-bytes image (length buffer) bs s ∙ sym (ap (λ (k : ℕ). take k bs) (run-as-fed image (length buffer) s bs .1))
+    fed-counted image (length buffer) bs s .0 ∙ sym (ap (λ (k : ℕ). take k bs) (run-as-fed image (length buffer) s bs .1))
 same-bytes s (report drop cliff charger) = refl
 same-bytes s (tick image buffer) = refl
 same-bytes s songEnd = refl
 
 pub same-count : (s : State) (c : Call) → length (readingsIn s c) ≡ perform s c .read
-same-count s (byte b image buffer) = fed-count image (length buffer) (b ∷ []) s ∙ sym (byte-as-fed image (length buffer) s b .1)
-same-count s (run bs image buffer) = fed-count image (length buffer) bs s ∙ sym (run-as-fed image (length buffer) s bs .1)
+same-count s (byte b image buffer) = fed-counted image (length buffer) (b ∷ []) s .1 ∙ sym (byte-as-fed image (length buffer) s b .1)
+same-count s (run bs image buffer) = fed-counted image (length buffer) bs s .1 ∙ sym (run-as-fed image (length buffer) s bs .1)
 same-count s (report drop cliff charger) = refl
 same-count s (tick image buffer) = refl
 same-count s songEnd = refl
