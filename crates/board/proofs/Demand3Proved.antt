@@ -65,11 +65,8 @@ fed-number image room (b ∷ bs) s t h =
     go : Fed s b bs image room → feed u bs image room .outcome .number ≡ lastNumber (numbersAt (readingsOf u bs image room))
         → feed s (b ∷ bs) image room .outcome .number ≡ lastNumber (numbersAt (readingsOf s (b ∷ bs) image room))
     go (none e f r) i = absurd (subst T e t)
-    go (more a n f r) i =
-        ap (λ (x : Performed). x .outcome .number) f ∙ i
-        ∙ sym (ap (λ (l : List Reading). lastNumber (numbersAt l)) r ∙ ap (λ (k : ℕ). lastNumber (k ∷ numbersAt (readingsOf u bs image room))) n
-        ∙ last-nine (numbersAt (readingsOf u bs image room)))
-    go (last a f r) i = ap (λ (x : Performed). x .outcome .number) f ∙ sym (ap (λ (l : List Reading). lastNumber (numbersAt l)) r)
+    go (more a n f r) i = rw (f, r, n, last-nine (numbersAt (readingsOf u bs image room))) i
+    go (last a f r) i = rw (f, r) refl
 
 fed-place : (image : List ℕ) (room : ℕ) (s : State) (bs : List ℕ) → T (acceptedOf s) → T (allBytes bs)
     → feed s bs image room .read ≡ upToTrue (completed (s .partial) bs)

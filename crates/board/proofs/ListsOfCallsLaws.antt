@@ -3,7 +3,7 @@
 use mathlib.Core.Path.{_≡_, refl, sym, ap, ap₂, subst, _∙_}
 use mathlib.Core.Bool.{Bool, true, false, _&&_}
 use mathlib.Core.List.{List, [], _∷_, _++_, map, map-append}
-use Prim.Native.Nat.{ℕ, suc, _+_}
+use Prim.Native.Nat.{ℕ, suc}
 use native.Mathlib.Numerals.{one-add}
 use lib.Dec.{T, eqb}
 use lib.ListN.{length, take, length-map}
@@ -58,9 +58,6 @@ bytesAt = map (λ r. r .byte)
 abbrev Alike : Performed → Performed → Type 0
 Alike x y = (x .outcome .state ≡ y .outcome .state) × (x .read ≡ y .read)
 
-alike : (x y : Performed) → x ≡ y → Alike x y
-alike x y e = (ap (λ (z : Performed). z .outcome .state) e, ap (λ (z : Performed). z .read) e)
-
 module _ (image : List ℕ) (room : ℕ) where
   -- the readings are of the bytes that are counted
   abbrev Counted : State → List ℕ → Type 0
@@ -80,13 +77,10 @@ module _ (image : List ℕ) (room : ℕ) where
   byte-as-fed : (s : State) (b : ℕ) → Alike (performed (byteOf s b image room) (readBy (byteOf s b image room))) (feed s (b ∷ []) image room)
   byte-as-fed s b = go (first-fed s b [] image room)
     where
-      o : Outcome
-      o = byteOf s b image room
-
-      go : Fed s b [] image room → Alike (performed o (readBy o)) (feed s (b ∷ []) image room)
-      go (none e f r) = let q = byte-bad s b image room e in (ap (λ (x : Outcome). x .state) q ∙ sym (alike _ _ f .0), ap readBy q ∙ sym (alike _ _ f .1))
-      go (more t n f r) = (sym (alike _ _ f .0), reads-one s b image room t ∙ sym (alike _ _ f .1))
-      go (last t f r) = (sym (alike _ _ f .0), reads-one s b image room t ∙ sym (alike _ _ f .1))
+      go : Fed s b [] image room → Alike (performed (byteOf s b image room) (readBy (byteOf s b image room))) (feed s (b ∷ []) image room)
+      go (none e f r) = rw (f, byte-bad s b image room e) (refl, refl)
+      go (more t n f r) = rw f (refl, reads-one s b image room t)
+      go (last t f r) = rw f (refl, reads-one s b image room t)
 
   -- a bad record is fed nothing
   fed-bad : (s : State) (bs : List ℕ) → acceptedOf s ≡ false → Alike (performed (gives 8 s) 0) (feed s bs image room)
@@ -94,7 +88,7 @@ module _ (image : List ℕ) (room : ℕ) where
   fed-bad s (b ∷ bs) e = go (first-fed s b bs image room)
     where
       go : Fed s b bs image room → Alike (performed (gives 8 s) 0) (feed s (b ∷ bs) image room)
-      go (none e f r) = alike _ _ (sym f)
+      go (none e f r) = rw f (refl, refl)
       go (more t n f r) = absurd (subst T e t)
       go (last t f r) = absurd (subst T e t)
 
@@ -166,10 +160,6 @@ then t u s rs ms over d = d
 then t u s rs ms (quiet {u = v} q c) d = quiet q (then t u v rs ms c d)
 then t u s rs ms (reads {rs = ns} b image room a c) d = reads b image room a (then t u (byteOf s b image room .state) ns ms c d)
 
--- ends and readings that are the same
-course-as : (t u s : State) (rs ms : List Reading) → t ≡ u → rs ≡ ms → Course u s ms → Course t s rs
-course-as t u s rs ms p q c = rw (p, q) c
-
 fed-course : (image : List ℕ) (room : ℕ) (bs : List ℕ) (s : State) → Course (feed s bs image room .outcome .state) s (readingsOf s bs image room)
 fed-course image room [] s = over
 fed-course image room (b ∷ bs) s = go (first-fed s b bs image room) (fed-course image room bs (byteOf s b image room .state))
@@ -179,15 +169,17 @@ fed-course image room (b ∷ bs) s = go (first-fed s b bs image room) (fed-cours
 
     go : Fed s b bs image room → Course (feed u bs image room .outcome .state) u (readingsOf u bs image room)
         → Course (feed s (b ∷ bs) image room .outcome .state) s (readingsOf s (b ∷ bs) image room)
-    go (none e f r) c = course-as _ _ s _ _ (alike _ _ f .0) r over
-    go (more a n f r) c = course-as _ _ s _ _ (alike _ _ f .0) r (reads b image room a c)
-    go (last a f r) c = course-as _ _ s _ _ (alike _ _ f .0) r (reads b image room a over)
+    go (none e f r) c = rw (f, r) over
+    go (more a n f r) c = rw (f, r) (reads b image room a c)
+    go (last a f r) c = rw (f, r) (reads b image room a over)
 
 call-course : (s : State) (c : Call) → Course (perform s c .outcome .state) s (readingsIn s c)
 call-course s (byte b image buffer) =
-    course-as _ _ s _ _ (byte-as-fed image (length buffer) s b .0) refl (fed-course image (length buffer) (b ∷ []) s)
+    subst (λ (t : State). Course t s (readingsIn s (byte b image buffer))) (sym (byte-as-fed image (length buffer) s b .0))
+    (fed-course image (length buffer) (b ∷ []) s)
 call-course s (run bs image buffer) =
-    course-as _ _ s _ _ (run-as-fed image (length buffer) s bs .0) refl (fed-course image (length buffer) bs s)
+    subst (λ (t : State). Course t s (readingsIn s (run bs image buffer))) (sym (run-as-fed image (length buffer) s bs .0))
+    (fed-course image (length buffer) bs s)
 call-course s (report drop cliff charger) = quiet (report-quiet s drop cliff charger) over
 call-course s (tick image buffer) = quiet (tick-quiet s image (length buffer)) over
 call-course s songEnd = quiet (song-end-quiet s) over
