@@ -1,0 +1,35 @@
+-- The promises hold.
+-- Assumes nothing.
+use Rattle.wire.proofs.SignedLaws.{round-trip-bits, bytes-shown}
+use Rattle.wire.proofs.SixteenLaws.{round-trip16}
+use Rattle.wire.proofs.RepliesLaws.{replies-tell}
+use Rattle.frame.proofs.AbsorbLaws.{taken-at-once}
+use Rattle.frame.proofs.CutProved.{every-push, remaining-needed}
+use Rattle.packet.proofs.SensorsProved.{lists-right}
+use Rattle.state.proofs.RecordProved.{records-in-numbers, accepted-stays}
+use Rattle.board.proofs.Demand1Proved.{demand-1}
+use Rattle.board.proofs.Demand2Proved.{demand-2}
+use Rattle.board.proofs.Demand3Proved.{demand-3}
+use Rattle.drive.proofs.StageProved.{stage-right}
+use Rattle.line.proofs.LinesProved.{lines-in-numbers}
+use Rattle.promises.specs.Promises.{Promises}
+
+pub promises : Promises
+promises =
+    record {
+      demand-1 = demand-1;
+      demand-2 = demand-2;
+      demand-3 = demand-3;
+      wheel-speeds = stage-right;
+      data-needed = remaining-needed;
+      one-byte = every-push;
+      together = taken-at-once;
+      lists = lists-right;
+      refused-records = records-in-numbers;
+      good-records = accepted-stays;
+      answers-whole = replies-tell;
+      two-bytes = round-trip16;
+      signed-bits = round-trip-bits;
+      one-byte-shown = bytes-shown;
+      typed-lines = lines-in-numbers;
+    }

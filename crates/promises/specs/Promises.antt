@@ -1,0 +1,58 @@
+-- What is promised, on one page. Each field is a statement, and the value in proofs/ proves them all. Follow a name to its
+-- crate's specs/ for what it says word by word; the calls' contracts in src/ say that the code does what these speak of.
+-- Assumes nothing.
+use Prim.Native.Nat.{ℕ}
+use Rattle.wire.specs.Signed.{RoundTripBits, BytesShown}
+use Rattle.wire.specs.Sixteen.{RoundTrip16}
+use Rattle.wire.specs.Replies.{RepliesTell}
+use Rattle.frame.specs.Absorb.{TakenAtOnce}
+use Rattle.frame.specs.Cut.{EveryPush, RemainingNeeded}
+use Rattle.packet.specs.Sensors.{ListsRight}
+use Rattle.state.specs.Record.{RecordsInNumbers, AcceptedStays}
+use Rattle.board.specs.Demand1.{Demand1}
+use Rattle.board.specs.Demand2.{Demand2}
+use Rattle.board.specs.Demand3.{Demand3}
+use Rattle.drive.specs.Stage.{StageRight}
+use Rattle.line.specs.Cases.{LinesInNumbers}
+
+pub record Promises : Type 0 where
+  -- ---- the three demands
+
+  -- Whatever state record, bytes, report and buffer it is handed, the board answers. A refusal has one number, changes
+  -- nothing but the frame that it reads past, and writes nothing; a good record stays good.
+  pub demand-1 : Demand1
+  -- How bytes are cut into commands, what each command does in each mode, sensor packets and stream chunks are those of
+  -- the published rules, for every record and every value; what our host-side writer writes is read as it was meant.
+  pub demand-2 : Demand2
+  -- When the driver is gone: after any calls that read at least 511 bytes, all 128, the base has stopped, with all motors
+  -- off and no command half read, whatever it was doing before; and fewer bytes would not always do.
+  pub demand-3 : Demand3
+  -- ---- beside them: the wheels
+
+  -- The speed that each wheel is given on a curve is the nearest whole number to the exact one, never above 500 mm/s
+  -- either way, with a flag that tells when it was cut down to that; where the motors are off, the wheels stand.
+  pub wheel-speeds : StageRight
+  -- ---- what the demands rest on, below the board
+
+  -- The data bytes of a command still to come are all needed, whatever they are: none of them is taken for a command.
+  pub data-needed : RemainingNeeded
+  -- What one byte can leave of any half-read command, also of one that no bytes could have left.
+  pub one-byte : EveryPush
+  -- Bytes that come together leave what they would leave one by one.
+  pub together : TakenAtOnce
+  -- Which lists of sensor packets a host may ask for, and which it may have streamed.
+  pub lists : ListsRight
+  -- Every reason for which a state record is refused, in numbers, each beside a good neighbour.
+  pub refused-records : RecordsInNumbers
+  -- Whatever a command with legal data sets in a good record, the record stays good.
+  pub good-records : AcceptedStays
+  -- An answer is written whole, from the start of the lent buffer, or not at all.
+  pub answers-whole : RepliesTell
+  -- Numbers with a sign, as two bytes and as one: what is written is read back, and what is read is written back.
+  pub two-bytes : RoundTrip16
+  pub signed-bits : (half : ℕ) → RoundTripBits half
+  pub one-byte-shown : BytesShown
+  -- ---- what the programs read
+
+  -- The words and numbers that a person types are found where they stand, and one that is too large is told.
+  pub typed-lines : LinesInNumbers
