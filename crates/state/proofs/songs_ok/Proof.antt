@@ -38,7 +38,7 @@ unfolding songsOk
 returns-2 c =
     let else1 = c .before .before in
     let start = else1 .before .before in
-    simp (eq-eqb _ _ (sixteen start), selected-tested (start .args .songs), le-leb _ _ (else1 .if1 .left), lt-leb _ _ (c .if2 .taken))
+    simp (eq-eqb _ _ (sixteen start), selected-tested (start .args .songs), le-leb _ _ (else1 .if1 .left), lt-leb (start .args .songs .playing) 1 (omega (arith, c .if2 .taken)))
 
 -- what the first two tests tell
 module _ (c : tie.Else2 Inv-loop μ-loop) where
@@ -47,7 +47,7 @@ module _ (c : tie.Else2 Inv-loop μ-loop) where
 
   left-over : songsOk (asked .args .songs) ≡ (playingSet (asked .args .songs) && all songOk (asked .args .songs .table))
   unfolding songsOk
-  left-over = simp (eq-eqb _ _ (sixteen asked), selected-tested (asked .args .songs), le-leb _ _ (c .before .before .if1 .left), le-leb _ _ (c .if2 .left))
+  left-over = simp (eq-eqb _ _ (sixteen asked), selected-tested (asked .args .songs), le-leb _ _ (c .before .before .if1 .left), le-leb (asked .args .songs .playing) 1 (omega (arith, c .if2 .left)))
 
   -- whether the selected song is set, as it is read
   set-read : (let x = asked .args .songs in
