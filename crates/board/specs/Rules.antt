@@ -187,7 +187,7 @@ pub data Case : State → Call → ℕ → Type 0 where
       → length buffer < length (chunkBytes (statusOf s) image (take (s .stream .count) (s .stream .ids))) → Case s (tick image buffer) 7
 
 -- THEOREM: a number but 0 is given in its case, and in no other
-pub record Exactly (s : State) (c : Call) : Type 0 where
+pub record InItsCase (s : State) (c : Call) : Type 0 where
   pub in-case : (n : ℕ) → Case s c n → perform s c .outcome .number ≡ n
   pub case-of : (perform s c .outcome .number ≡ 0 → ⊥) → Case s c (perform s c .outcome .number)
 
@@ -234,6 +234,6 @@ pub record RulesRight : Type 0 where
   pub tick-right : (s : State) → T (acceptedOf s) → (image : List ℕ) (room : ℕ) → TickRight s image room
   pub demo-right : (s : State) → T (acceptedOf s) → s .partial ≡ emptyPartial → (image : List ℕ) (room : ℕ) → DemoRight s image room
   pub backing-right : (s : State) → BackingRight s
-  pub exactly : (s : State) → T (acceptedOf s) → (c : Call) → T (allBytes (bytesOf c)) → Exactly s c
+  pub exactly : (s : State) → T (acceptedOf s) → (c : Call) → T (allBytes (bytesOf c)) → InItsCase s c
   -- a song end only clears playing
   pub song-end-right : (s : State) → T (acceptedOf s) → songEndOf s ≡ gives 0 (withPlaying 0 s)
