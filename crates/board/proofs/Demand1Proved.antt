@@ -3,7 +3,7 @@
 use mathlib.Core.Path.{_≡_, refl, sym, ap, subst, _∙_}
 use mathlib.Core.Bool.{false, not}
 use mathlib.Core.List.{List, [], _∷_}
-use Prim.Native.Nat.{ℕ, _≤_, zero-le}
+use Prim.Native.Nat.{ℕ, suc, _≤_, zero-le}
 use native.Mathlib.Omega.{arith}
 use native.Mathlib.Numerals.{one-add}
 use lib.Dec.{T, leb, eqb, ltb→lt}
@@ -126,9 +126,9 @@ stays s songEnd t u = song-end-is Stays s (λ d. absurd (subst T d t)) (λ v. gi
 
 -- ---- 9
 
--- the bytes that are read are taken
+-- the bytes that are read are taken, and they are the whole slice
 abbrev Taken : State → List ℕ → Performed → Type 0
-Taken s bs y = y .outcome .number ≡ 9 → y .outcome .state ≡ withPartial (afterOf (s .partial) (take (y .read) bs)) s
+Taken s bs y = y .outcome .number ≡ 9 → (y .outcome .state ≡ withPartial (afterOf (s .partial) (take (y .read) bs)) s) × (y .read ≡ length bs)
 
 -- a number that the call does not give
 never : (s : State) (c : Call) (n : ℕ) → among (numbersOf c) n ≡ false → outcome s c .number ≡ n → ⊥
@@ -136,26 +136,15 @@ never s c n f e = subst T (ap (among (numbersOf c)) e ∙ f) (told s c .numbered
 
 taken : (s : State) (c : Call) → Taken s (bytesOf c) (perform s c)
 taken s (byte b image buffer) e =
-    subst (λ (o : Outcome). o .state ≡ withPartial (afterOf (s .partial) (take (readBy o) (b ∷ []))) s) (sym (byte-nine s b image (length buffer) e)) refl
+    subst (λ (o : Outcome). (o .state ≡ withPartial (afterOf (s .partial) (take (readBy o) (b ∷ []))) s) × (readBy o ≡ 1))
+    (sym (byte-nine s b image (length buffer) e)) (refl, refl)
 taken s (run bs image buffer) e =
     run-is image (length buffer) (Taken s bs) s bs (λ d (e : 8 ≡ 9). absurd (omega arith))
-    (λ t. feed-is image (length buffer) Taken (λ x e. refl) (λ x b bs y e h. rw (one-add (y .read)) h) (λ x b bs d e. absurd (d e)) s bs) e
+    (λ t. feed-is image (length buffer) Taken (λ x e. (refl, refl)) (λ x b bs y d h e. rw (one-add (y .read)) (h e .0, ap suc (h e .1)))
+    (λ x b bs d e. absurd (d e)) s bs) e
 taken s (report dropped cliff charger) e = absurd (never s (report dropped cliff charger) 9 refl e)
 taken s (tick image buffer) e = absurd (never s (tick image buffer) 9 refl e)
 taken s songEnd e = absurd (never s songEnd 9 refl e)
-
--- and so is the whole slice
-abbrev Whole : State → List ℕ → Performed → Type 0
-Whole s bs y = y .outcome .number ≡ 9 → y .read ≡ length bs
-
-whole : (s : State) (c : Call) → Whole s (bytesOf c) (perform s c)
-whole s (byte b image buffer) e = ap readBy (byte-nine s b image (length buffer) e)
-whole s (run bs image buffer) e =
-    run-is image (length buffer) (Whole s bs) s bs (λ d (e : 8 ≡ 9). absurd (omega arith))
-    (λ t. feed-is image (length buffer) Whole (λ x e. refl) (λ x b bs y d h e. omega (arith, h e)) (λ x b bs d e. absurd (d e)) s bs) e
-whole s (report dropped cliff charger) e = absurd (never s (report dropped cliff charger) 9 refl e)
-whole s (tick image buffer) e = absurd (never s (tick image buffer) 9 refl e)
-whole s songEnd e = absurd (never s songEnd 9 refl e)
 
 -- ---- the theorem
 
@@ -181,8 +170,8 @@ demand-1 =
       length-zero = λ s c h. ap (λ (l : List ℕ). length l) (told s c .silent h);
       buffer-kept = λ s c h. ap (λ (l : List ℕ). overwrite l (bufferOf c)) (told s c .silent h);
       read-past = λ s c. told s c .leaves;
-      bytes-taken = taken;
-      all-read = whole;
+      bytes-taken = λ s c e. taken s c e .0;
+      all-read = λ s c e. taken s c e .1;
       length-answer = λ s c. refl;
       room-enough = λ s c. told s c .fits;
       answer-there = λ s c. take-append-seam (outcome s c .answer) (drop (length (outcome s c .answer)) (bufferOf c));
