@@ -12,7 +12,7 @@ use lib.ListN.{length, getD, take, replicate, length-replicate, length-map, List
 use mir.Facts.{T-not, and-yes}
 use borrow.Author.Tests.{le-leb, lt-leb, eqb-true, eq-eqb, ne-eqb}
 use Rattle.wire.specs.Lists.{all, upToTrue, isByte, allBytes}
-use Rattle.wire.proofs.BoolLaws.{is-true, to-T, both, le-or-lt}
+use Rattle.wire.proofs.BoolLaws.{is-true, to-T, both, same-truth, le-or-lt}
 use Rattle.wire.proofs.ListsLaws.{getD-any, all-front}
 use Rattle.frame.specs.FrameTable.{dataLength}
 use Rattle.frame.specs.Push.{Pushed, bodySizeAs, pushOf, emptyPartial, nextOf, afterOf, opcodes, completed}
@@ -418,14 +418,13 @@ with-511 image buffer =
     (omega (arith, calls-length image buffer 511))
 
 not-with-510 : (image buffer : List ℕ) → idle (after longest (calls128 510 image buffer)) ≡ false
-not-with-510 image buffer = go (idle (after longest (calls128 510 image buffer))) refl
-  where
-    go : (b : Bool) → idle (after longest (calls128 510 image buffer)) ≡ b → b ≡ false
-    go true e =
-        let l = more-than-510 longest refl refl (calls128 510 image buffer) (to-T (idle (after longest (calls128 510 image buffer))) e) in
-        let n = calls-length image buffer 510 in
-        absurd (omega arith)
-    go false e = refl
+not-with-510 image buffer =
+    same-truth (idle (after longest (calls128 510 image buffer))) false
+    (λ t.
+    let l = more-than-510 longest refl refl (calls128 510 image buffer) t in
+    let n = calls-length image buffer 510 in
+    absurd (omega arith))
+    (λ t. absurd t)
 
 pub demand-3 : Demand3
 demand-3 =

@@ -85,22 +85,22 @@ module _ (s : State) (image : List ℕ) (room : ℕ) where
   abbrev answer : List ℕ → List ℕ
   answer ids = answerBytes (statusOf s) image ids
 
-  refused : (m : Message) (n : ℕ) → Refused s image room m n → judgeOf s m image room ≡ gives n s
+  refused : (m : Message) (n : ℕ) → Refused s image room m n → (0 < n) × (judgeOf s m image room ≡ gives n s)
   unfolding judgeOf
-  refused m n (unknown e) = rw e refl
-  refused m n (not-offered e) = rw e refl
-  refused m n (wrong-mode e a) = judge-mode s m image room e a
-  refused m n (not-legal e a l) = judge-data s m image room e a l
-  refused m n (no-song j e) = rw (j .0, j .1, e) refl
-  refused m n (busy {n = k} j h e) = rw (j .0, j .1, pos-eqb (songAt (s .songs) k .len) h, e) refl
-  refused m n (packet-long {id = id} j h) = rw (j .0, j .1, lt-leb (length (answer (id ∷ []))) room h) refl
-  refused m n (list-long {n = k} {p = p} j h) = rw (j .0, j .1, lt-leb (length (answer (take k p))) room h) refl
+  refused m n (unknown e) = (omega arith, rw e refl)
+  refused m n (not-offered e) = (omega arith, rw e refl)
+  refused m n (wrong-mode e a) = (omega arith, judge-mode s m image room e a)
+  refused m n (not-legal e a l) = (omega arith, judge-data s m image room e a l)
+  refused m n (no-song j e) = (omega arith, rw (j .0, j .1, e) refl)
+  refused m n (busy {n = k} j h e) = (omega arith, rw (j .0, j .1, pos-eqb (songAt (s .songs) k .len) h, e) refl)
+  refused m n (packet-long {id = id} j h) = (omega arith, rw (j .0, j .1, lt-leb (length (answer (id ∷ []))) room h) refl)
+  refused m n (list-long {n = k} {p = p} j h) = (omega arith, rw (j .0, j .1, lt-leb (length (answer (take k p))) room h) refl)
 
   number-column : NumberColumn s image room
   unfolding judgeOf
   number-column =
       record {
-        refused = refused;
+        refused = λ m n r. refused m n r .1;
         play = λ n p j h e. rw (j .0, j .1, pos-eqb (songAt (s .songs) n .len) h, ne-eqb (s .songs .playing) 1 e, leb·zero room) refl;
         sensors = λ id p j. rw (j .0, j .1) (cond-not (leb (length (answer (id ∷ []))) room) _ _);
         query = λ n p j. rw (j .0, j .1) (cond-not (leb (length (answer (take n p))) room) _ _);
@@ -111,7 +111,7 @@ module _ (s : State) (image : List ℕ) (room : ℕ) where
   Given m = (judgeOf s m image room .number ≡ 0 → ⊥) → Refused s image room m (judgeOf s m image room .number)
 
   named : (m : Message) (n : ℕ) → Refused s image room m n → Given m
-  named m n r h = subst (Refused s image room m) (sym (ap (λ (o : Outcome). o .number) (refused m n r))) r
+  named m n r h = subst (Refused s image room m) (sym (ap (λ (o : Outcome). o .number) (refused m n r .1))) r
 
   done : (m : Message) (x : State) (bytes : List ℕ) → judgeOf s m image room ≡ answers bytes x → Given m
   done m x bytes e h = absurd (h (ap (λ (o : Outcome). o .number) e))
@@ -210,29 +210,38 @@ module _ (s : State) (t : T (acceptedOf s)) where
 abbrev numberOf : State → Call → ℕ
 numberOf s c = perform s c .outcome .number
 
-in-case : (s : State) → T (acceptedOf s) → (c : Call) → T (allBytes (bytesOf c)) → (n : ℕ) → Case s c n → numberOf s c ≡ n
+in-case : (s : State) → T (acceptedOf s) → (c : Call) → T (allBytes (bytesOf c)) → (n : ℕ) → Case s c n → (0 < n) × (numberOf s c ≡ n)
 unfolding chunkNow
 in-case s t c u n (waiting {b = b} {image = image} {buffer = buffer} e) =
-    ap (λ (o : Outcome). o .number) (byte-right s t b image (length buffer) .waits e)
+    (omega arith, ap (λ (o : Outcome). o .number) (byte-right s t b image (length buffer) .waits e))
 in-case s t c u n (judged {b = b} {image = image} {buffer = buffer} e r) =
-    ap (λ (o : Outcome). o .number) (byte-right s t b image (length buffer) .judged e ∙ refused (withPartial emptyPartial s) image (length buffer) _ n r)
+    let i = refused (withPartial emptyPartial s) image (length buffer) _ n r in
+    (i .0, ap (λ (o : Outcome). o .number) (byte-right s t b image (length buffer) .judged e ∙ i .1))
 in-case s t c u n (none {image = image} {buffer = buffer}) =
-    ap (λ (x : Performed). x .outcome .number) (run-right s t image (length buffer) .none)
+    (omega arith, ap (λ (x : Performed). x .outcome .number) (run-right s t image (length buffer) .none))
 in-case s t c u n (more {b = b} {bs = bs} {image = image} {buffer = buffer} e r) =
     let v = and-yes (isByte b) (allBytes bs) u in
     let h = ltb→lt b 256 (v .0) in
     let w = byte-waits s b image (length buffer) t e in
-    ap (λ (x : Performed). x .outcome .number) (run-right s t image (length buffer) .more b bs h (ap (λ (o : Outcome). o .number) w))
-    ∙ ap (λ (o : Outcome). runOf (o .state) bs image (length buffer) .outcome .number) w
-    ∙ in-case (takes s b) (takes-accepted s b t h) (run bs image buffer) (v .1) n r
+    let i = in-case (takes s b) (takes-accepted s b t h) (run bs image buffer) (v .1) n r in (
+      i .0,
+      ap (λ (x : Performed). x .outcome .number) (run-right s t image (length buffer) .more b bs h (ap (λ (o : Outcome). o .number) w))
+          ∙ ap (λ (o : Outcome). runOf (o .state) bs image (length buffer) .outcome .number) w ∙ i .1,
+    )
 in-case s t c u n (last {b = b} {bs = bs} {image = image} {buffer = buffer} e r) =
     let ends = sym e ∙ byte-ends s b image (length buffer) t in
-    ap (λ (x : Performed). x .outcome .number)
-    (run-right s t image (length buffer) .last b bs (λ d. subst T (ends ∙ ap (λ (k : ℕ). not (eqb k 9)) d) tt))
-    ∙ in-case s t (byte b image buffer) (yes-and (isByte b) true (and-yes (isByte b) (allBytes bs) u .0) tt) n r
-in-case s t c u n (in-off {image = image} {buffer = buffer} e) = ap (λ (o : Outcome). o .number) (tick-right s t image (length buffer) .in-off e)
-in-case s t c u n (chunk-long {image = image} {buffer = buffer} m e h l) =
-    ap (λ (o : Outcome). o .number) (tick-right s t image (length buffer) .chunk m e h ∙ fitted-right (chunkNow s image) (length buffer) s .no-room l)
+    let i = in-case s t (byte b image buffer) (yes-and (isByte b) true (and-yes (isByte b) (allBytes bs) u .0) tt) n r in (
+      i .0,
+      ap (λ (x : Performed). x .outcome .number)
+          (run-right s t image (length buffer) .last b bs (λ d. subst T (ends ∙ ap (λ (k : ℕ). not (eqb k 9)) d) tt)) ∙ i .1,
+    )
+in-case s t c u n (in-off {image = image} {buffer = buffer} e) =
+    (omega arith, ap (λ (o : Outcome). o .number) (tick-right s t image (length buffer) .in-off e))
+in-case s t c u n (chunk-long {image = image} {buffer = buffer} m e h l) = (
+  omega arith,
+  ap (λ (o : Outcome). o .number)
+      (tick-right s t image (length buffer) .chunk m e h ∙ fitted-right (chunkNow s image) (length buffer) s .no-room l),
+)
 
 -- from the number to its case
 abbrev Named : State → Call → ℕ → Type 0

@@ -186,9 +186,9 @@ pub data Case : State → Call → ℕ → Type 0 where
   chunk-long : {s : State} {image buffer : List ℕ} → (s .mode ≡ 0 → ⊥) → s .stream .on ≡ 1 → 0 < s .stream .count
       → length buffer < length (chunkBytes (statusOf s) image (take (s .stream .count) (s .stream .ids))) → Case s (tick image buffer) 7
 
--- THEOREM: a number but 0 is given in its case, and in no other
+-- THEOREM: a number but 0 is given in its case, and in no other; 0 is given in no case
 pub record InItsCase (s : State) (c : Call) : Type 0 where
-  pub in-case : (n : ℕ) → Case s c n → perform s c .outcome .number ≡ n
+  pub in-case : (n : ℕ) → Case s c n → (0 < n) × (perform s c .outcome .number ≡ n)
   pub case-of : (perform s c .outcome .number ≡ 0 → ⊥) → Case s c (perform s c .outcome .number)
 
 -- ---- document 02, One: Demo takes a number
