@@ -19,14 +19,14 @@ use Rattle.state.specs.Accepted.{modeNamed, orderNamed, offUnlessDriven, wheels
 use Rattle.state.proofs.RecordProved.{setters-right, power-on-right, stop-right, accepted-exactly}
 use Rattle.state.proofs.SameLaws.{same-exactly}
 use Rattle.board.specs.Judge.{statusOf, judgeOf}
-use Rattle.board.specs.Calls.{fedOf, byteOf, backsRound, intoCliff, reportOf, chunkNow, tickOf, songEndOf, runOf}
+use Rattle.board.specs.Calls.{fedOf, byteOf, chunkNow, tickOf, runOf}
 use Rattle.board.specs.Demand2.{Demand2}
 use Rattle.board.proofs.RulesProved.{rules-right}
 use Rattle.board.proofs.SentLaws.{read-back}
 
 -- the tables of cases are computed: each `tt` and each `refl`
 pub demand-2 : Demand2
-unfolding flatMap flatten read16Of dataLength bodySizeAs reachableOf sizeOf startOf groupOf packetsOf sensorBytes packetIn dataIn itemsIn answerBytes checksumOf counted chunkOf chunkBytes listableOf streamableOf commandOf decodeOf isIn isLegal rowOf allowedOf legalOf motorsOff modeNamed orderNamed offUnlessDriven wheelsLegal dutiesLegal outputsLegal baudLegal selectedLegal streamLegal lengthLegal playingSet notesZero idsZero motorsTyped keptTyped songTyped songsTyped streamTyped typed acceptedOf statusOf judgeOf fedOf byteOf backsRound intoCliff reportOf chunkNow tickOf songEndOf runOf
+unfolding flatMap flatten read16Of dataLength bodySizeAs reachableOf sizeOf startOf groupOf packetsOf sensorBytes packetIn dataIn itemsIn answerBytes checksumOf counted chunkOf chunkBytes listableOf streamableOf commandOf decodeOf isIn isLegal rowOf allowedOf legalOf motorsOff modeNamed orderNamed offUnlessDriven wheelsLegal dutiesLegal outputsLegal baudLegal selectedLegal streamLegal lengthLegal playingSet notesZero idsZero motorsTyped keptTyped songTyped songsTyped streamTyped typed acceptedOf statusOf judgeOf fedOf byteOf chunkNow tickOf runOf
 demand-2 =
     record {
       frame-table = cut-by-table;
