@@ -10,7 +10,7 @@ use Rattle.frame.proofs.CutProved.{cut-in-numbers, cut-by-table, stored-as-sent
 use Rattle.packet.specs.SizeTable.{sizeOf, startOf, groupOf, packetsOf}
 use Rattle.packet.specs.Packets.{sensorBytes, packetIn, dataIn, itemsIn, answerBytes, checksumOf, counted, chunkOf, chunkBytes}
 use Rattle.packet.specs.Answers.{listableOf, streamableOf}
-use Rattle.packet.proofs.SensorsProved.{sizes-agree, sensors-in-numbers, packets-right, answers-right, chunks-right}
+use Rattle.packet.proofs.SensorsProved.{sizes-agree, lists-right, sensors-in-numbers, packets-right, answers-right, chunks-right}
 use Rattle.command.specs.Layout.{commandOf, decodeOf}
 use Rattle.command.specs.CommandTable.{isIn, isLegal, rowOf, allowedOf, legalOf}
 use Rattle.command.proofs.CommandsProved.{commands-in-numbers, mode-column, data-column, decoding-right, writing-right, round-trip}
@@ -48,6 +48,7 @@ demand-2 =
       bad-records = accepted-exactly;
       packet-sizes = sizes-agree;
       packet-cases = sensors-in-numbers;
+      lists = lists-right;
       packets = packets-right;
       answers = answers-right;
       chunks = chunks-right;

@@ -10,7 +10,7 @@ use lib.ListN.{length, replicate}
 use Rattle.wire.specs.Lists.{all, snoc, byteArray}
 use Rattle.frame.specs.Push.{emptyPartial}
 use Rattle.frame.specs.Cut.{CutInNumbers, CutByTable, StoredAsSent, CompleteExactly, ReachableExact, RunOf128s}
-use Rattle.packet.specs.Sensors.{SizesAgree, SensorsInNumbers, PacketsRight, AnswersRight, ChunksRight}
+use Rattle.packet.specs.Sensors.{SizesAgree, ListsRight, SensorsInNumbers, PacketsRight, AnswersRight, ChunksRight}
 use Rattle.command.specs.Layout.{encodeOf}
 use Rattle.command.specs.CommandTable.{legalOf}
 use Rattle.command.specs.Cases.{rowOpcodes}
@@ -68,6 +68,7 @@ pub record Demand2 : Type 0 where
   -- packets, their answers and chunks
   pub packet-sizes : SizesAgree
   pub packet-cases : SensorsInNumbers
+  pub lists : ListsRight
   pub packets : PacketsRight
   pub answers : AnswersRight
   pub chunks : ChunksRight

@@ -5,7 +5,6 @@ use Rattle.wire.proofs.SixteenLaws.{round-trip16}
 use Rattle.wire.proofs.RepliesLaws.{replies-tell}
 use Rattle.frame.proofs.AbsorbLaws.{taken-at-once}
 use Rattle.frame.proofs.CutProved.{every-push, remaining-needed}
-use Rattle.packet.proofs.SensorsProved.{lists-right}
 use Rattle.state.proofs.RecordProved.{records-in-numbers, accepted-stays}
 use Rattle.board.proofs.Demand1Proved.{demand-1}
 use Rattle.board.proofs.Demand2Proved.{demand-2}
@@ -24,7 +23,6 @@ promises =
       data-needed = remaining-needed;
       one-byte = every-push;
       together = taken-at-once;
-      lists = lists-right;
       refused-records = records-in-numbers;
       good-records = accepted-stays;
       answers-whole = replies-tell;

@@ -7,7 +7,6 @@ use Rattle.wire.specs.Sixteen.{RoundTrip16}
 use Rattle.wire.specs.Replies.{RepliesTell}
 use Rattle.frame.specs.Absorb.{TakenAtOnce}
 use Rattle.frame.specs.Cut.{EveryPush, RemainingNeeded}
-use Rattle.packet.specs.Sensors.{ListsRight}
 use Rattle.state.specs.Record.{RecordsInNumbers, AcceptedStays}
 use Rattle.board.specs.Demand1.{Demand1}
 use Rattle.board.specs.Demand2.{Demand2}
@@ -40,8 +39,6 @@ pub record Promises : Type 0 where
   pub one-byte : EveryPush
   -- Bytes that come together leave what they would leave one by one.
   pub together : TakenAtOnce
-  -- Which lists of sensor packets a host may ask for, and which it may have streamed.
-  pub lists : ListsRight
   -- Every reason for which a state record is refused, in numbers, each beside a good neighbour.
   pub refused-records : RecordsInNumbers
   -- Whatever a command with legal data sets in a good record, the record stays good.
