@@ -7,7 +7,7 @@ use mathlib.Core.List.{List, [], _∷_}
 use mathlib.Core.Logic.{⊎-elim}
 use Prim.Native.Nat.{ℕ, _≤_, _<_, zero-le}
 use native.Mathlib.Omega.{arith}
-use lib.Dec.{T, leb, ltb, ltb→lt}
+use lib.Dec.{T, leb}
 use lib.ListN.{length, getD}
 use mir.Facts.{and-yes, or-yes, T-not-not, not-T, yes-and, yes-leb}
 use mir.Val.{hasKey}
@@ -66,10 +66,6 @@ one-of f (k ∷ []) n t h = subst (λ (m : ℕ). T (f m)) (sym h) (and-yes (f k)
 one-of f (k ∷ k′ ∷ ks) n t h =
     let s = and-yes (f k) (all f (k′ ∷ ks)) t in
     ⊎-elim (λ (e : n ≡ k). subst (λ (m : ℕ). T (f m)) (sym e) (s .0)) (λ r. one-of f (k′ ∷ ks) n (s .1) r) h
-
--- a key is below what all keys are below
-pub key-below : (ks : List ℕ) (m n : ℕ) → T (all (λ k. ltb k m) ks) → OneOf ks n → n < m
-key-below ks m n t h = ltb→lt n m (one-of (λ k. ltb k m) ks n t h)
 
 -- ---- the one test, and the law
 
