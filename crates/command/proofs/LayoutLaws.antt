@@ -4,13 +4,13 @@ use mathlib.Core.Path.{_≡_, refl, sym, ap, ap₂, _∙_}
 use mathlib.Core.Bool.{Bool, true, false, cond, _&&_}
 use mathlib.Core.List.{List, [], _∷_, map}
 use mathlib.Core.Logic.{⊎-elim}
-use Prim.Native.Nat.{ℕ, _+_, _-_, _*_, _≤_, _<_}
+use Prim.Native.Nat.{ℕ, suc, _+_, _-_, _*_, _≤_, _<_}
 use native.Mathlib.Omega.{arith}
 use lib.Dec.{leb, eqb, leb→le}
 use lib.ListN.{length, getD, take, drop, replicate, length-append}
 use lib.Seq.{length-take-le, take-append-seam}
 use mir.Facts.{and-yes}
-use borrow.Author.Tests.{le-leb, lt-leb}
+use borrow.Author.Tests.{le-leb, lt-leb, eq-eqb, ne-eqb}
 use Rattle.wire.specs.Lists.{among, within, padded}
 use Rattle.wire.specs.Buffer.{Put}
 use Rattle.wire.proofs.BoolLaws.{le-or-lt}
@@ -92,32 +92,29 @@ look-none : (rs : List Reading) (op a b c d : ℕ) → among (opcodes rs) op ≡
 look-none [] op a b c d e = refl
 look-none (r ∷ rs) op a b c d e = look-miss r rs op a b c d (eqb op (r .opcode)) refl e (look-none rs op a b c d)
 
+sort-is : (read other : Bool) (n : ℕ) → suc n ≡ cond read 0 (cond other 2 1) → (read ≡ false) × (other ≡ eqb n 1)
+sort-is true other n e = absurd (omega arith)
+sort-is false true n e = (refl, sym (eq-eqb n 1 (omega arith)))
+sort-is false false n e = (refl, sym (ne-eqb n 1 (λ (f : n ≡ 1). omega arith)))
+
 module _ (bytes : List ℕ) where
   abbrev op : ℕ
   op = getD bytes 0 0
 
-  left-over : (n : ℕ) → 0 < n → n ≡ sort op → (commandOf bytes ≡ otherwise op) × (n ≡ cond (within 152 158 op) 2 1)
+  left-over : (n : ℕ) → suc n ≡ sort op → cond (eqb n 1) (NotOffered op) (Unknown op) ≡ commandOf bytes
   unfolding commandOf
-  left-over n h e = go (among (opcodes readings) op) refl
-    where
-      go : (t : Bool) → among (opcodes readings) op ≡ t → (commandOf bytes ≡ otherwise op) × (n ≡ cond (within 152 158 op) 2 1)
-      go true t = absurd (let z : n ≡ 0 = e ∙ simp t in omega arith)
-      go false t = (look-none readings op (getD bytes 1 0) (getD bytes 2 0) (getD bytes 3 0) (getD bytes 4 0) t, e ∙ simp t)
+  left-over n e =
+      let s = sort-is (among (opcodes readings) op) (within 152 158 op) n e in
+      sym
+      (look-none readings op (getD bytes 1 0) (getD bytes 2 0) (getD bytes 3 0) (getD bytes 4 0) (s .0)
+      ∙ ap (λ (w : Bool). cond w (NotOffered op) (Unknown op)) (s .1))
 
   -- an arm for what is left
   pub not-offered : 2 ≡ sort op → NotOffered op ≡ commandOf bytes
-  not-offered e = go (within 152 158 op) refl
-    where
-      go : (t : Bool) → within 152 158 op ≡ t → NotOffered op ≡ commandOf bytes
-      go true t = sym (left-over 2 (omega arith) e .0 ∙ simp t)
-      go false t = absurd (let z : 2 ≡ 1 = left-over 2 (omega arith) e .1 ∙ simp t in omega arith)
+  not-offered = left-over 1
 
   pub unknown : 1 ≡ sort op → Unknown op ≡ commandOf bytes
-  unknown e = go (within 152 158 op) refl
-    where
-      go : (t : Bool) → within 152 158 op ≡ t → Unknown op ≡ commandOf bytes
-      go true t = absurd (let z : 1 ≡ 2 = left-over 1 (omega arith) e .1 ∙ simp t in omega arith)
-      go false t = sym (left-over 1 (omega arith) e .0 ∙ simp t)
+  unknown = left-over 0
 
 -- ---- decodeOf
 

@@ -1,18 +1,19 @@
 -- The round trip: a legal message's frame says the message, and a frame of legal data is its message's.
 -- Assumes nothing.
 use mathlib.Core.Path.{_≡_, refl, sym, ap, ap₂, subst, _∙_}
-use mathlib.Core.Bool.{Bool, true, false, cond, _&&_}
+use mathlib.Core.Bool.{Bool, true, false, not, _&&_, _||_}
 use mathlib.Core.List.{List, [], _∷_, _++_, append-assoc, map}
+use mathlib.Core.Logic.{⊎-elim}
 use Prim.Native.Nat.{ℕ, suc, _+_, _-_, _*_, _≤_}
 use native.Mathlib.Omega.{arith}
 use lib.Dec.{T, leb, ltb, eqb, leb→le, eqb→eq}
 use lib.IntN.{pos}
 use lib.ListN.{length, getD, take, drop, replicate, length-drop, take-append-drop}
 use lib.Seq.{length-take-le, getD-take, take-at, take-append-seam, drop-append-seam}
-use mir.Facts.{and-yes, yes-and}
+use mir.Facts.{and-yes, or-yes, yes-and}
 use borrow.Author.Tests.{le-leb, eqb-true}
 use Rattle.wire.specs.Lists.{span, within, snoc, padded, isByte, allBytes, byteArray}
-use Rattle.wire.proofs.BoolLaws.{to-T}
+use Rattle.wire.proofs.BoolLaws.{to-T, cond-is}
 use Rattle.wire.proofs.ListsLaws.{take-span, all-append, all-take, getD-zeros, byte-at, zeros-from}
 use Rattle.wire.proofs.SignedLaws.{round-trip-bits}
 use Rattle.wire.proofs.SixteenLaws.{round-trip16}
@@ -25,12 +26,13 @@ use Rattle.frame.proofs.StoredLaws.{kept-all, kept-header}
 use Rattle.frame.proofs.PushLaws.{header-le-frame, Agree, length-agree, stores-agree}
 use Rattle.frame.proofs.CutProved.{complete-exactly, stored-as-sent}
 use Rattle.packet.specs.Answers.{listableOf, streamableOf}
-use Rattle.command.specs.Layout.{valueOf, allSent, formOf, opcodeOf, refusalOf, storedCount, payloadSize, headOf, payloadIn, encodeOf, Reading, readings, otherwise, commandFor, commandOf, decodeOf}
-use Rattle.command.specs.CommandTable.{_to_, upTo, isLegal, allLegal, noRow, rowOf, legalOf}
+use Rattle.command.specs.Layout.{allSent, formOf, opcodeOf, refusalOf, storedCount, payloadSize, headOf, payloadIn, encodeOf, Reading, readings, commandFor, commandOf, decodeOf}
+use Rattle.command.specs.CommandTable.{_to_, upTo, isLegal, rowOf, legalOf}
 use Rattle.command.specs.Commands.{message, unusedZero, messageAt, readAs}
 use Rattle.command.specs.declared.Command.{Command}
 use Rattle.command.specs.declared.Message.{Message}
 use Rattle.command.specs.declared.Command.the-variants.{Start, Baud, Control, Safe, Full, Power, Demo, Spot, Cover, Dock, Drive, Direct, Drivers, Duties, Leds, Outputs, Infrared, Song, Play, Sensors, QueryList, Stream, Pause, Unknown, NotOffered}
+use Rattle.command.proofs.VariantLaws.{every}
 use Rattle.command.proofs.LayoutLaws.{stored-all, small, encode-length}
 use Rattle.command.proofs.CommandTableLaws.{in-range, query-legal, stream-legal}
 use Rattle.command.proofs.FitLaws.{Fit, numbers-fit, sent-bytes}
@@ -200,30 +202,20 @@ module _ (bytes : List ℕ) (t : T (allBytes bytes)) where
   abbrev dueAs : Reading → List ℕ
   dueAs r = r .opcode ∷ least (dataLength (r .opcode)) ∷ map (λ i. getD bytes i 0) (span 1 (length (allSent (formOf (told r) .items))))
 
-  otherwise-spelled : (op : ℕ) → Spelled bytes op (otherwise op)
-  otherwise-spelled op = go (within 152 158 op) refl
-    where
-      go : (w : Bool) → within 152 158 op ≡ w → Spelled bytes op (otherwise op)
-      go true e = simp e (record { opcode = refl; sent = refl; shortest = λ z. absurd (omega (arith, z)) })
-      go false e = simp e (record { opcode = refl; sent = refl; shortest = λ z. absurd (omega (arith, z)) })
-
-  look-one : (r : Reading) (c : Command) (op : ℕ) (e : Bool) → eqb op (r .opcode) ≡ e → toldAs r ≡ dueAs r → Spelled bytes op c
-      → Spelled bytes op (cond (eqb op (r .opcode)) (told r) c)
-  look-one r c op true e s u =
-      simp e
-      (subst (λ (k : ℕ). Spelled bytes k (told r)) (sym (eqb-true op (r .opcode) e))
-      (record {
-        opcode = ap (λ (l : List ℕ). getD l 0 0) s;
-        sent = ap (λ (l : List ℕ). drop 2 l) s;
-        shortest = λ z. ap (λ (l : List ℕ). getD l 1 0) s;
-      }))
-  look-one r c op false e s u = simp e u
-
   look-spelled : (rs : List Reading) (op : ℕ) → map toldAs rs ≡ map dueAs rs → Spelled bytes op (commandFor rs op (d 1) (d 2) (d 3) (d 4))
-  look-spelled [] op e = otherwise-spelled op
+  look-spelled [] op e =
+      cond-is (Spelled bytes op) (within 152 158 op)
+      (λ q. record { opcode = refl; sent = refl; shortest = λ z. absurd (omega (arith, z)) })
+      (λ q. record { opcode = refl; sent = refl; shortest = λ z. absurd (omega (arith, z)) })
   look-spelled (r ∷ rs) op e =
-      look-one r (commandFor rs op (d 1) (d 2) (d 3) (d 4)) op (eqb op (r .opcode)) refl (ap (λ (l : List (List ℕ)). getD l 0 []) e)
-      (look-spelled rs op (ap (λ (l : List (List ℕ)). drop 1 l) e))
+      let s = ap (λ (l : List (List ℕ)). getD l 0 []) e in
+      cond-is (Spelled bytes op) (eqb op (r .opcode))
+      (λ q. record {
+        opcode = ap (λ (l : List ℕ). getD l 0 0) s ∙ sym (eqb-true op (r .opcode) q);
+        sent = ap (λ (l : List ℕ). drop 2 l) s;
+        shortest = λ z. ap (λ (l : List ℕ). getD l 1 0) s ∙ ap (λ (k : ℕ). least (dataLength k)) (sym (eqb-true op (r .opcode) q));
+      })
+      (λ q. look-spelled rs op (ap (λ (l : List (List ℕ)). drop 1 l) e))
 
   -- computed, but for the signed numbers
   all-spelled : map toldAs readings ≡ map dueAs readings
@@ -257,17 +249,14 @@ least-header Song bytes e = refl
 least-header Unknown bytes e = cc
 
 -- legal data are an offered command's
-no-row : (m : Message) → rowOf (m .command) ≡ noRow → T (legalOf m) → ⊥
-unfolding legalOf
-no-row m e t = and-yes (allLegal [] (map valueOf (formOf (m .command) .items))) false (rw e at t) .1
+legal-or : (c : Command) (p : List ℕ) → T (eqb (refusalOf c) 0 || not (legalOf (message c p)))
+unfolding rowOf legalOf
+legal-or c p = every (λ (x : Command). eqb (refusalOf x) 0 || not (legalOf (message x p))) (λ a b d v w. tt) c
 
-legal-offered : (m : Message) → T (legalOf m) → refusalOf (m .command) ≡ 0
-unfolding rowOf
-legal-offered m t = go (eqb (refusalOf (m .command)) 0) refl
-  where
-    go : (w : Bool) → eqb (refusalOf (m .command)) 0 ≡ w → refusalOf (m .command) ≡ 0
-    go true e = eqb-true (refusalOf (m .command)) 0 e
-    go false e = absurd (no-row m (simp e) t)
+legal-offered : (m : Message) → legalOf m ≡ true → refusalOf (m .command) ≡ 0
+legal-offered m e =
+    ⊎-elim (eqb→eq (refusalOf (m .command)) 0) (λ z. absurd (rw e at z))
+    (or-yes (eqb (refusalOf (m .command)) 0) (not (legalOf m)) (legal-or (m .command) (m .payload)))
 
 command-padded : (n : ℕ) (l : List ℕ) → commandOf (padded n l) ≡ commandOf l
 unfolding commandOf
@@ -288,7 +277,7 @@ module _ (l : List ℕ) (t : T (allBytes l)) (long : least (lengthOf l) ≤ leng
   laid-said = subst Laid said (laid-of (decodeOf (padded 35 l)) legal)
 
   size : length (headOf c) ≡ least (lengthOf l)
-  size = spelled l t .shortest (subst (λ (x : Command). refusalOf x ≡ 0) said (legal-offered (decodeOf (padded 35 l)) (to-T _ legal)))
+  size = spelled l t .shortest (subst (λ (x : Command). refusalOf x ≡ 0) said (legal-offered (decodeOf (padded 35 l)) legal))
 
   abbrev rest : List ℕ
   rest = drop (length (headOf c)) l
