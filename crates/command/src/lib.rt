@@ -21,10 +21,10 @@
 //     148 Stream        P S F       N and ids as 149, and the ids' sizes plus N at most 255
 //     150 Pause         P S F       0 off, 1 on
 //
-// Proved (specs/Commands.antt): what the writer writes, pushed byte by byte, is complete at its last
-// byte and not before, and is read back, with 0 in the places of the payload that are not in use;
-// every frame of legal data is what the writer writes of its message; a frame has at most 35 bytes;
-// a refusal writes nothing.
+// Proved (specs/Commands.antt): what the writer writes, pushed byte by byte, is complete at its
+// last byte and not before, and is read back, with 0 in the places of the payload that are not in
+// use; every frame of legal data is what the writer writes of its message; a frame has at most 35
+// bytes; a refusal writes nothing.
 ghost use mathlib.Core.Path.{_≡_};
 ghost use mathlib.Core.List.{[], _∷_, _++_};
 ghost use Rattle.wire.specs.Lists.{within};
