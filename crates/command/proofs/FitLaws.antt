@@ -8,9 +8,10 @@ use native.Mathlib.Omega.{arith}
 use lib.Dec.{T, leb→le}
 use lib.IntN.{ℤ, pos, negsuc}
 use lib.Signed.{leZ, mag}
-use mir.Facts.{and-yes, or-yes, yes-and, yes-ltb}
+use mir.Facts.{and-yes, or-yes}
 use mir.Syntax.{w8, w16}
 use mir.Val.{SFits}
+use borrow.Author.Tests.{lt-ltb}
 use Rattle.wire.specs.Lists.{all, isByte, allBytes}
 use Rattle.wire.specs.Signed.{bits8Of}
 use Rattle.wire.specs.Sixteen.{high16Of, low16Of}
@@ -106,13 +107,11 @@ numbers-fit m t =
 
 -- ---- as bytes
 
+-- in whichever order a word's two are sent
 item-bytes : (i : Item) → FitsItem i → T (allBytes (sentAs i))
-item-bytes (byte n) f = yes-and (isByte n) true (yes-ltb f) tt
-item-bytes (signedByte v) f = yes-and (isByte (bits8Of v)) true (yes-ltb (round-trip-bits 128 .bits-fit v (f .sfits))) tt
-item-bytes (word v) f =
-    let h : high16Of v < 256 = round-trip16 .high-byte v f in
-    let l : low16Of v < 256 = round-trip16 .low-byte v in
-    yes-and (isByte (high16Of v)) (isByte (low16Of v) && true) (yes-ltb h) (yes-and (isByte (low16Of v)) true (yes-ltb l) tt)
+item-bytes (byte n) f = simp (lt-ltb n 256 f) tt
+item-bytes (signedByte v) f = simp (lt-ltb (bits8Of v) 256 (round-trip-bits 128 .bits-fit v (f .sfits))) tt
+item-bytes (word v) f = simp (lt-ltb (high16Of v) 256 (round-trip16 .high-byte v f), lt-ltb (low16Of v) 256 (round-trip16 .low-byte v)) tt
 
 pub sent-bytes : (is : List Item) → Fit is → T (allBytes (allSent is))
 sent-bytes [] f = tt
