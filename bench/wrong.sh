@@ -78,17 +78,19 @@ apply() {
 # --- Comparing --------------------------------------------------------------
 
 # make_files: the files of the short setting, and what the twin writes of them.
+# The small ones come first: they find most, and soon.
 make_files() {
     files=()
-    local kind seed
-    for kind in $kinds; do
-        for seed in $small_seed 1; do
-            make "$kind" $seed $([ $seed = 1 ] && echo $short_calls || echo $small_calls)
-            mv "$input" "$tmp/$kind-$seed"
-            "$twin" <"$tmp/$kind-$seed" >"$tmp/$kind-$seed.twin" || fail "the twin failed on $made"
-            files+=("$kind-$seed")
-        done
-    done
+    local kind
+    for kind in $kinds; do make_file "$kind" $small_seed $small_calls; done
+    for kind in $kinds; do make_file "$kind" 1 $short_calls; done
+}
+
+make_file() {
+    make "$@"
+    mv "$input" "$tmp/$1-$2"
+    "$twin" <"$tmp/$1-$2" >"$tmp/$1-$2.twin" || fail "the twin failed on $made"
+    files+=("$1-$2")
 }
 
 # difference STATUS: what differs first in the input, on one line.
@@ -117,8 +119,9 @@ difference() {
         }'
 }
 
-# find: the first file of which the wrong board writes something else, and what
-# differs in it; fails if there is none.
+# find_difference: the first file of which the wrong board writes something else,
+# and what differs in it; fails if there is none. A file that the wrong board
+# doesn't perform to its end differs too.
 find_difference() {
     local file status
     for file in "${files[@]}"; do
