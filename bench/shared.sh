@@ -27,7 +27,7 @@ build_twin() {
 
 # --- The compared files -----------------------------------------------------
 
-kinds="valid valid-runs ticks damaged noise stops records rooms writer"
+kinds="valid valid-runs ticks damaged noise stops judged records rooms writer"
 # Of each kind there is a small file, and files with seeds from 1 on; so many
 # calls the small one has, and so many those of the short setting.
 small_seed=1000 small_calls=500 short_calls=25000

@@ -1,21 +1,24 @@
 //! Counting what a file of calls meets of the rules.
 
+mod drives;
+mod ended;
 mod flags;
+mod rooms;
 
 use std::cmp::Ordering;
 use std::io::{self, Write};
 
 use crate::board::{Board, Mode, Number, SafetyReport, WheelOrder};
 use crate::check::{self, Item};
-use crate::command;
 use crate::file::Call;
 use crate::frame::{self, Standing};
-use crate::perform::{Observer, Outcome};
+use crate::perform::{Bench, Observer, Outcome};
 use crate::writer::Message;
 
+use drives::Drives;
+use ended::Ended;
 use flags::Flags;
-
-const MODES: [Mode; 4] = [Mode::Off, Mode::Passive, Mode::Safe, Mode::Full];
+use rooms::NoRoom;
 
 /// The kinds of calls and the numbers that each can give.
 const KINDS: [(&str, &[u8]); 6] = [
@@ -31,8 +34,8 @@ const KINDS: [(&str, &[u8]); 6] = [
 pub struct Cover {
     /// By kind of call and number.
     numbers: [[u64; 10]; KINDS.len()],
-    /// By opcode and mode: how often a command was done.
-    done: [[u64; MODES.len()]; 256],
+    /// Of frames by opcode and mode.
+    ended: Ended,
     /// By item: how often a call got a record that breaks it and no other.
     bad: [u64; Item::ALL.len()],
     /// Of records whose flags are none.
@@ -41,8 +44,14 @@ pub struct Cover {
     demo: Demo,
     /// By row of `CLIFFS`: how often a report met it.
     cliffs: [u64; CLIFFS.len()],
+    /// Of cliffs on a Drive order.
+    drives: Drives,
+    /// Of calls that are lent no room.
+    no_room: NoRoom,
     /// The opcode and mode of the frame that the present call may complete.
     at_hand: Option<(u8, Mode)>,
+    /// Whether the present call is lent no room.
+    without_room: bool,
     /// The one item that the present call's record breaks.
     broken: Option<Item>,
     /// The row of `CLIFFS` that the present call meets if the base does as the
@@ -60,12 +69,15 @@ impl Cover {
     pub fn new() -> Cover {
         Cover {
             numbers: [[0; 10]; KINDS.len()],
-            done: [[0; MODES.len()]; 256],
+            ended: Ended::new(),
             bad: [0; Item::ALL.len()],
             flags: Flags::default(),
             demo: Demo::new(),
             cliffs: [0; CLIFFS.len()],
+            drives: Drives::default(),
+            no_room: NoRoom::default(),
             at_hand: None,
+            without_room: false,
             broken: None,
             cliff: None,
         }
@@ -78,15 +90,8 @@ impl Cover {
                 writeln!(out, "{kind} {number} {}", counts[usize::from(number)])?;
             }
         }
-        for opcode in 0..=255 {
-            for mode in MODES {
-                let offered = frame::standing(opcode) == Standing::Offered;
-                if offered && command::allowed(opcode, mode) {
-                    let count = self.done[usize::from(opcode)][mode as usize];
-                    writeln!(out, "done {opcode} {mode:?} {count}")?;
-                }
-            }
-        }
+        self.ended.write_rows(out)?;
+        self.no_room.write_rows(out)?;
         for (item, count) in Item::ALL.iter().zip(self.bad) {
             writeln!(out, "bad {} {count}", item.name())?;
         }
@@ -95,7 +100,7 @@ impl Cover {
         for ((mode, bend, side, _), count) in CLIFFS.iter().zip(self.cliffs) {
             writeln!(out, "cliff {mode:?} {bend} {side} {count}")?;
         }
-        Ok(())
+        self.drives.write_rows(out)
     }
 
     /// Counts a Demo that the call ended or that the writer was asked for.
@@ -122,7 +127,9 @@ impl Cover {
 }
 
 impl Observer for Cover {
-    fn before(&mut self, call: &Call, board: &Board) {
+    fn before(&mut self, call: &Call, bench: &Bench) {
+        let board = &bench.board;
+        self.without_room = bench.room == 0;
         // A call reads on in one frame at most: the held one, or else the one
         // that its first byte begins. Until that frame ends the mode stays.
         let opcode = if board.held.used == 0 {
@@ -133,6 +140,9 @@ impl Observer for Cover {
         self.at_hand = opcode.zip(Mode::from_code(board.mode));
         self.broken = None;
         self.cliff = cliff(call, board);
+        if is_cliff_alone(call, board) {
+            self.drives.count(board.mode, &board.wheels);
+        }
         // The writer gets no record.
         if matches!(call, Call::Write(_)) {
             return;
@@ -163,10 +173,12 @@ impl Observer for Cover {
         };
         let number = outcome.number as usize;
         self.numbers[kind][number] += 1;
-        if matches!(call, Call::Byte(_) | Call::Run(_)) && number == 0 {
-            if let Some((opcode, mode)) = self.at_hand {
-                self.done[usize::from(opcode)][mode as usize] += 1;
-            }
+        if let Some((opcode, mode)) = self.at_hand.filter(|_| outcome.read > 0) {
+            self.ended.count(opcode, mode, outcome.number);
+        }
+        if self.without_room {
+            let opcode = self.at_hand.map(|(opcode, _)| opcode);
+            self.no_room.count(call, opcode, outcome);
         }
         if let Some(item) = self.broken {
             self.bad[item as usize] += 1;
@@ -306,15 +318,19 @@ const CLIFFS: [(Mode, &str, &str, bool); 13] = [
 /// In a row of `CLIFFS`: whichever wheel it is.
 const ANY_SIDE: &str = "any";
 
-/// The row of a report with cliff alone on a good record with a Direct order.
-fn cliff(call: &Call, board: &Board) -> Option<usize> {
+/// Whether a call is a report with cliff alone, on a good record.
+fn is_cliff_alone(call: &Call, board: &Board) -> bool {
     const CLIFF_ALONE: SafetyReport = SafetyReport {
         wheel_drop: false,
         cliff: true,
         charger: false,
     };
-    let direct = board.wheels.kind == WheelOrder::DIRECT;
-    if *call != Call::Report(CLIFF_ALONE) || !direct || !check::is_good(board) {
+    *call == Call::Report(CLIFF_ALONE) && check::is_good(board)
+}
+
+/// The row of a report with cliff alone on a good record with a Direct order.
+fn cliff(call: &Call, board: &Board) -> Option<usize> {
+    if board.wheels.kind != WheelOrder::DIRECT || !is_cliff_alone(call, board) {
         return None;
     }
     let (bend, side) = bend_of(board.wheels.first, board.wheels.second);

@@ -21,8 +21,8 @@ pub struct Outcome {
 
 /// Someone who is told of every call.
 pub trait Observer {
-    /// A call is about to get this record.
-    fn before(&mut self, _call: &Call, _board: &Board) {}
+    /// A call is about to be made, while things stand so.
+    fn before(&mut self, _call: &Call, _bench: &Bench) {}
 
     /// The call gave this, and left this record.
     fn after(
@@ -119,7 +119,7 @@ pub fn perform(bytes: &[u8], observer: &mut impl Observer) -> io::Result<Option<
             Err(fault) => return Ok(Some(fault)),
             Ok(Some(Record::Setting(setting))) => bench.set(setting),
             Ok(Some(Record::Call(call))) => {
-                observer.before(&call, &bench.board);
+                observer.before(&call, &bench);
                 bench.call(&call, |outcome, answer, board| {
                     observer.after(&call, outcome, answer, board)
                 })?;

@@ -240,7 +240,9 @@ fn cover_counts_of_demo() {
         "write 4 2",
         "write 7 1",
         "done 128 Off 1",
+        "wrong-mode 136 Off 1",
         "done 136 Passive 1",
+        "data 136 Passive 3",
         "bad held-frame-bytes 1",
         "bad held-frame-owed 2",
         "ended 136 0 1",
@@ -351,6 +353,85 @@ fn cover_counts_of_cliffs() {
         "cliff Safe still both 1",
         "cliff Full ahead any 4",
         "cliff Full tight any 2",
+        "drive-cliff Safe back-inside 1",
+    ];
+    assert_eq!(met(&file), expected);
+}
+
+#[test]
+fn cover_counts_of_drive_cliffs() {
+    let drives = [
+        (1, -164),
+        (0, 164),
+        (-1, 164),
+        (-500, -164),
+        (-1, 165),
+        (-1, -165),
+        (-1, 1),
+        (-1, -166),
+        (-1, 32767),
+        (-1, -32768),
+    ];
+    let mut file = Vec::new();
+    for mode in [Mode::Safe, Mode::Full] {
+        for (velocity, radius) in drives {
+            file.extend(reported(mode, WheelOrder::drive(velocity, radius), 0, 2));
+        }
+    }
+    // Not a cliff alone, and not a good record.
+    file.extend(reported(Mode::Safe, WheelOrder::drive(1, 1), 0, 3));
+    file.extend(reported(Mode::Safe, WheelOrder::drive(-1, 0), 0, 2));
+    let expected = [
+        "report 0 21",
+        "report 8 1",
+        "bad wheel-order 1",
+        "drive-cliff Safe ahead 1",
+        "drive-cliff Safe still 1",
+        "drive-cliff Safe back-164 1",
+        "drive-cliff Safe back--164 1",
+        "drive-cliff Safe back-165 1",
+        "drive-cliff Safe back--165 1",
+        "drive-cliff Safe back-inside 1",
+        "drive-cliff Safe back-outside 1",
+        "drive-cliff Safe back-32767 1",
+        "drive-cliff Safe back--32768 1",
+        "drive-cliff Full ahead 1",
+        "drive-cliff Full back-inside 1",
+    ];
+    assert_eq!(met(&file), expected);
+}
+
+#[test]
+fn cover_counts_of_refused_frames() {
+    // Without room, in Off: a tick, a query, what isn't offered and an unknown one.
+    let mut file = vec![
+        130, 0, 0, 3, 129, 0, 2, 142, 7, 129, 0, 3, 156, 1, 2, 1, 146,
+    ];
+    // In Passive: no room, illegal data, an empty list, nothing to send.
+    file.extend_from_slice(&[1, 128, 129, 0, 2, 142, 7, 129, 0, 2, 142, 43]);
+    file.extend_from_slice(&[129, 0, 2, 149, 0, 3]);
+    let expected = [
+        "byte 0 1",
+        "byte 1 1",
+        "run 0 1",
+        "run 2 1",
+        "run 3 1",
+        "run 4 1",
+        "run 7 1",
+        "tick 0 1",
+        "tick 3 1",
+        "done 128 Off 1",
+        "wrong-mode 142 Off 1",
+        "data 142 Passive 1",
+        "done 149 Passive 1",
+        "not-offered 156 Off 1",
+        "unknown 146 Off 1",
+        "no-room 142 3 1",
+        "no-room 142 4 1",
+        "no-room 142 7 1",
+        "no-room 149 0 1",
+        "no-room tick 0 1",
+        "no-room tick 3 1",
     ];
     assert_eq!(met(&file), expected);
 }

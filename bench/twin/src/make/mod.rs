@@ -3,6 +3,7 @@
 pub mod edges;
 pub mod fixed;
 pub mod frames;
+pub mod judged;
 pub mod records;
 pub mod rng;
 pub mod tape;
@@ -18,13 +19,14 @@ use tape::Tape;
 type Maker = fn(&mut Tape<'_>, &mut Rng);
 
 /// The kinds of files that are compared, by name.
-pub const KINDS: [(&str, Maker); 9] = [
+pub const KINDS: [(&str, Maker); 10] = [
     ("valid", traffic::valid),
     ("valid-runs", traffic::valid_runs),
     ("ticks", traffic::ticks),
     ("damaged", traffic::damaged),
     ("noise", traffic::noise),
     ("stops", traffic::stops),
+    ("judged", judged::judged),
     ("records", records::records),
     ("rooms", edges::rooms),
     ("writer", edges::writer),

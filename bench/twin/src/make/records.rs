@@ -202,7 +202,7 @@ fn no_flag(rng: &mut Rng) -> u8 {
     rng.pick(&[2, 3, 128, 254, 255, any])
 }
 
-/// Makes one place not in use other than 0: the first, the last or any.
+/// Makes one place not in use other than 0, the first, the last or any, or two.
 fn touch_unused(rng: &mut Rng, places: &mut [u8], used: usize) {
     let unused = &mut places[used..];
     if unused.is_empty() {
@@ -211,6 +211,11 @@ fn touch_unused(rng: &mut Rng, places: &mut [u8], used: usize) {
     let any = rng.below(unused.len());
     let place = rng.pick(&[0, unused.len() - 1, any]);
     unused[place] = rng.pick(&[1, 128, 255]);
+    // Two of them cancel out where places are added up or held against each other.
+    if rng.one_in(4) {
+        unused[place] = 128;
+        unused[any] = 128;
+    }
 }
 
 fn run_motor(rng: &mut Rng, board: &mut Board) {
@@ -396,22 +401,24 @@ fn any(rng: &mut Rng) -> Board {
     layout::state_from_bytes(&bytes)
 }
 
-/// A good record in Safe or Full with an order about which a cliff is decided.
-fn near_a_cliff(rng: &mut Rng) -> Board {
-    let mode = rng.pick(&[Mode::Safe, Mode::Safe, Mode::Full]);
+/// A good record in Safe or Full with a Drive about which a cliff is decided.
+fn drive_near_a_cliff(rng: &mut Rng) -> Board {
+    let mode = rng.pick(&[Mode::Safe, Mode::Safe, Mode::Safe, Mode::Full]);
     let mut board = good_in(rng, mode);
-    let velocity = rng.pick(&[-500, -1, -1, -1, 0, 1, 500]);
-    let radius = rng.pick(&[164, 165, 166, 1, 2000, i16::MAX]);
-    board.wheels = match rng.below(4) {
-        0 => wheels::near_a_cliff(rng),
-        1 => WheelOrder::drive(velocity, i16::MIN),
-        2 => WheelOrder::drive(velocity, -radius),
-        _ => WheelOrder::drive(velocity, radius),
+    let velocity = rng.pick(&[-500, -1, -1, -1, -1, 0, 1, 500]);
+    let end = rng.pick(&[164, 164, 164, 165, 165, 165, 166, 1, 1, 1, 2000]);
+    let radius = match rng.below(13) {
+        0 => i16::MIN,
+        1 => i16::MAX,
+        2 => frames::radius(rng),
+        3..=7 => -end,
+        _ => end,
     };
+    board.wheels = WheelOrder::drive(velocity, radius);
     board
 }
 
-/// The same with a Direct order, which has many more cases than a Drive.
+/// The same with a Direct order.
 fn direct_near_a_cliff(rng: &mut Rng) -> Board {
     let mode = rng.pick(&[Mode::Safe, Mode::Safe, Mode::Safe, Mode::Full]);
     let mut board = good_in(rng, mode);
@@ -428,9 +435,10 @@ pub fn records(tape: &mut Tape, rng: &mut Rng) {
             tape.report(rng.pick(&[2, 2, 2, 2, 2, any]));
             continue;
         }
-        if rng.one_in(10) {
-            tape.state(&near_a_cliff(rng));
-            tape.report(rng.pick(&[2, 2, 2, 0, 1, 3, 4, 7]));
+        if rng.one_in(5) {
+            tape.state(&drive_near_a_cliff(rng));
+            let any = rng.byte(0, 7);
+            tape.report(rng.pick(&[2, 2, 2, 2, 2, any]));
             continue;
         }
         let board = match rng.below(20) {
