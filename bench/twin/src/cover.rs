@@ -1,5 +1,6 @@
 //! Counting what a file of calls meets of the rules.
 
+mod counts;
 mod drives;
 mod ended;
 mod flags;
@@ -15,6 +16,7 @@ use crate::frame::{self, Standing};
 use crate::perform::{Bench, Observer, Outcome};
 use crate::writer::Message;
 
+use counts::Counts;
 use drives::Drives;
 use ended::Ended;
 use flags::Flags;
@@ -44,12 +46,16 @@ pub struct Cover {
     demo: Demo,
     /// By row of `CLIFFS`: how often a report met it.
     cliffs: [u64; CLIFFS.len()],
+    /// Of frames with a count.
+    counts: Counts,
     /// Of cliffs on a Drive order.
     drives: Drives,
     /// Of calls that are lent no room.
     no_room: NoRoom,
     /// The opcode and mode of the frame that the present call may complete.
     at_hand: Option<(u8, Mode)>,
+    /// That frame's first bytes, as far as the present call offers them.
+    first_bytes: [u8; 3],
     /// Whether the present call is lent no room.
     without_room: bool,
     /// The one item that the present call's record breaks.
@@ -74,9 +80,11 @@ impl Cover {
             flags: Flags::default(),
             demo: Demo::new(),
             cliffs: [0; CLIFFS.len()],
+            counts: Counts::default(),
             drives: Drives::default(),
             no_room: NoRoom::default(),
             at_hand: None,
+            first_bytes: [0; 3],
             without_room: false,
             broken: None,
             cliff: None,
@@ -91,6 +99,7 @@ impl Cover {
             }
         }
         self.ended.write_rows(out)?;
+        self.counts.write_rows(out)?;
         self.no_room.write_rows(out)?;
         for (item, count) in Item::ALL.iter().zip(self.bad) {
             writeln!(out, "bad {} {count}", item.name())?;
@@ -147,7 +156,10 @@ impl Observer for Cover {
         if matches!(call, Call::Write(_)) {
             return;
         }
-        if !check::is_good(board) {
+        self.first_bytes = first_bytes(call, board);
+        if check::is_good(board) {
+            self.counts.count_held(&board.held);
+        } else {
             self.broken = check::only_broken(board);
             self.flags.count(call, board);
         }
@@ -175,6 +187,9 @@ impl Observer for Cover {
         self.numbers[kind][number] += 1;
         if let Some((opcode, mode)) = self.at_hand.filter(|_| outcome.read > 0) {
             self.ended.count(opcode, mode, outcome.number);
+            if outcome.number == Number::Done {
+                self.counts.count_done(self.first_bytes);
+            }
         }
         if self.without_room {
             let opcode = self.at_hand.map(|(opcode, _)| opcode);
@@ -187,6 +202,16 @@ impl Observer for Cover {
         self.count_cliff(board);
         Ok(())
     }
+}
+
+/// The first bytes of the frame that a call may complete; 0 where there are none.
+fn first_bytes(call: &Call, board: &Board) -> [u8; 3] {
+    let held = board.held.places.iter().take(board.held.used.into());
+    let mut first = [0; 3];
+    for (place, &byte) in first.iter_mut().zip(held.chain(serial_bytes(call))) {
+        *place = byte;
+    }
+    first
 }
 
 /// The bytes that a call offers to the reader of frames.

@@ -306,6 +306,45 @@ fn cover_counts_of_flags() {
     assert_eq!(met(&file), expected);
 }
 
+#[test]
+fn cover_counts_of_counts() {
+    // A song of 1 note by bytes, of 2 in two runs, and lists of 1 and 16.
+    let mut file = vec![1, 128, 1, 140, 1, 9, 1, 1, 1, 0, 1, 0];
+    file.extend_from_slice(&[129, 0, 2, 140, 9, 129, 0, 5, 2, 0, 0, 0, 0]);
+    file.extend_from_slice(&[129, 0, 3, 148, 1, 7, 129, 0, 18, 149, 16]);
+    file.extend_from_slice(&[7; 16]);
+    // Held frames past their count, of which a byte has come or not, each with a
+    // tick: the last holds all of its bytes so far.
+    for held in [
+        &[148, 17][..],
+        &[149, 18, 0],
+        &[140, 0, 255, 0],
+        &[152, 3, 0],
+        &[149, 3, 0],
+    ] {
+        let mut board = Board::power_on();
+        board.mode = 1;
+        board.run(held, &[0; 40], &mut []);
+        file.push(131);
+        file.extend_from_slice(&layout::state_bytes(&board));
+        file.push(3);
+    }
+    let expected = [
+        "count 140 1 1",
+        "count 140 2 1",
+        "count 148 1 1",
+        "count 149 16 1",
+        "past 140 33-255 1",
+        "past 149 18-32 1",
+        "past 152 1-16 1",
+    ];
+    let met = met(&file);
+    let counts = met
+        .iter()
+        .filter(|row| row.starts_with("count") || row.starts_with("past"));
+    assert_eq!(counts.collect::<Vec<_>>(), expected);
+}
+
 /// A record in a mode under an order, and a report on it.
 fn reported(mode: Mode, order: WheelOrder, duty: u8, flags: u8) -> Vec<u8> {
     let mut board = Board::power_on();
@@ -426,6 +465,7 @@ fn cover_counts_of_refused_frames() {
         "done 149 Passive 1",
         "not-offered 156 Off 1",
         "unknown 146 Off 1",
+        "count 149 0 1",
         "no-room 142 3 1",
         "no-room 142 4 1",
         "no-room 142 7 1",

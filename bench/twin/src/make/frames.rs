@@ -205,7 +205,9 @@ fn counted(rng: &mut Rng) -> Vec<u8> {
     let opcode = rng.pick(&[148, 149, 152]);
     let any = rng.byte(1, 255);
     let low = rng.byte(1, 16);
-    let count = rng.pick(&[any, low, low, 1, 16, 17, 255]);
+    // A frame's places could hold so many ids, but past 16 none is kept.
+    let fits = rng.byte(18, 32);
+    let count = rng.pick(&[any, low, low, 1, 16, 17, fits, 255]);
     let mut bytes = vec![opcode, count];
     let come = rng.below(usize::from(count));
     let last = rng.pick(&[42, 255]);
@@ -217,7 +219,8 @@ fn counted(rng: &mut Rng) -> Vec<u8> {
 /// come.
 fn long_song(rng: &mut Rng) -> Vec<u8> {
     let any = rng.byte(17, 255);
-    let count = rng.pick(&[any, 17, 255, 255]);
+    let few = rng.byte(18, 32);
+    let count = rng.pick(&[any, 17, few, 255, 255]);
     let mut bytes = vec![140, rng.any(), count];
     if rng.flip() {
         let come = rng.below(2 * usize::from(count));
