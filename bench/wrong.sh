@@ -63,7 +63,8 @@ apply() {
         'file: src/'*) file=$wrong_source/${line#file: } ;;
         'old: '*) old=${line#old: } ;;
         'new: '*)
-            [ -f "$file" ] && [ -n "$old" ] || { echo "no file or no old line before: $line" && return 1; }
+            [ -f "$file" ] || { echo "no file to edit before: $line" && return 1; }
+            [ -n "$old" ] || { echo "no old line before: $line" && return 1; }
             replace_line "$file" "$old" "${line#new: }" || return 1
             old=
             ((++edits))
@@ -163,6 +164,7 @@ wrong_boards() {
     make_files
     local name failed=() kind
     [ $# -gt 0 ] || set -- $(cd "$here/wrong" && ls | sed -n 's/\.edit$//p')
+    [ $# -gt 0 ] || fail "there are no wrong boards"
     declare -A found_count
     for name in "$@"; do
         if try "$name"; then
