@@ -1,6 +1,6 @@
--- Document 01's shown cases, W1 to W13, as one table that a board is held against; and boards that it
--- rejects (document 01, 'How tight the statements are'). What the cases expect is written out, and
--- cites no rule.
+-- Document 01's shown cases, W1 to W13, as one table that a board is held against; and boards that
+-- it rejects (document 01, 'How tight the statements are'). What the cases expect is written out,
+-- and cites no rule.
 -- Assumes nothing.
 use mathlib.Core.Bool.{Bool, not, cond, _&&_}
 use mathlib.Core.List.{List, [], _∷_, _++_, map, flatMap}

@@ -134,9 +134,9 @@ fn refuse() -> Speeds
     }
 }
 
-// The speeds of a wheel order as the state record has it: its kind and its two numbers. It is legal by
-// the record's own rule. What stands beside a 4 is free in the papers: both speeds are 0, and neither
-// was capped (`refused`), so that a motor stage that looks at the speeds alone stands.
+// The speeds of a wheel order as the state record has it: its kind and its two numbers. It is legal
+// by the record's own rule. What stands beside a 4 is free in the papers: both speeds are 0, and
+// neither was capped (`refused`), so that a motor stage that looks at the speeds alone stands.
 #[no_mangle]
 pub extern "C" fn wheel_speeds(kind: u8, first: i16, second: i16) -> Speeds
     ensures { λ r. ⌜ r ≡ speedsOf kind first second ⌝ }

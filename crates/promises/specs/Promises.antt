@@ -1,5 +1,6 @@
--- What is promised, on one page. Each field is a statement, and the value in proofs/ proves them all. Follow a name to its
--- crate's specs/ for what it says word by word; the calls' contracts in src/ say that the code does what these speak of.
+-- What is promised, on one page. Each field is a statement, and the value in proofs/ proves them
+-- all. Follow a name to its crate's specs/ for what it says word by word; the calls' contracts in
+-- src/ say that the code does what these speak of.
 -- Assumes nothing.
 use Prim.Native.Nat.{ℕ}
 use Rattle.wire.specs.Signed.{RoundTripBits, BytesShown}
@@ -17,23 +18,28 @@ use Rattle.line.specs.Cases.{LinesInNumbers}
 pub record Promises : Type 0 where
   -- ---- the three demands
 
-  -- Whatever state record, bytes, report and buffer it is handed, the board answers. A refusal has one number, changes
-  -- nothing but the frame that it reads past, and writes nothing; a good record stays good.
+  -- Whatever state record, bytes, report and buffer it is handed, the board answers. A refusal has
+  -- one number, changes nothing but the frame that it reads past, and writes nothing; a good record
+  -- stays good.
   pub demand-1 : Demand1
-  -- How bytes are cut into commands, what each command does in each mode, sensor packets and stream chunks are those of
-  -- the published rules, for every record and every value; what our host-side writer writes is read as it was meant.
+  -- How bytes are cut into commands, what each command does in each mode, sensor packets and stream
+  -- chunks are those of the published rules, for every record and every value; what our host-side
+  -- writer writes is read as it was meant.
   pub demand-2 : Demand2
-  -- When the driver is gone: after any calls that read at least 511 bytes, all 128, the base has stopped, with all motors
-  -- off and no command half read, whatever it was doing before; and fewer bytes would not always do.
+  -- When the driver is gone: after any calls that read at least 511 bytes, all 128, the base has
+  -- stopped, with all motors off and no command half read, whatever it was doing before; and fewer
+  -- bytes would not always do.
   pub demand-3 : Demand3
   -- ---- beside them: the wheels
 
-  -- The speed that each wheel is given on a curve is the nearest whole number to the exact one, never above 500 mm/s
-  -- either way, with a flag that tells when it was cut down to that; where the motors are off, the wheels stand.
+  -- The speed that each wheel is given on a curve is the nearest whole number to the exact one,
+  -- never above 500 mm/s either way, with a flag that tells when it was cut down to that; where the
+  -- motors are off, the wheels stand.
   pub wheel-speeds : StageRight
   -- ---- what the demands rest on, below the board
 
-  -- The data bytes of a command still to come are all needed, whatever they are: none of them is taken for a command.
+  -- The data bytes of a command still to come are all needed, whatever they are: none of them is
+  -- taken for a command.
   pub data-needed : RemainingNeeded
   -- What one byte can leave of any half-read command, also of one that no bytes could have left.
   pub one-byte : EveryPush
@@ -45,11 +51,13 @@ pub record Promises : Type 0 where
   pub good-records : AcceptedStays
   -- An answer is written whole, from the start of the lent buffer, or not at all.
   pub answers-whole : RepliesTell
-  -- Numbers with a sign, as two bytes and as one: what is written is read back, and what is read is written back.
+  -- Numbers with a sign, as two bytes and as one: what is written is read back, and what is read is
+  -- written back.
   pub two-bytes : RoundTrip16
   pub signed-bits : (half : ℕ) → RoundTripBits half
   pub one-byte-shown : BytesShown
   -- ---- what the programs read
 
-  -- The words and numbers that a person types are found where they stand, and one that is too large is told.
+  -- The words and numbers that a person types are found where they stand, and one that is too large
+  -- is told.
   pub typed-lines : LinesInNumbers

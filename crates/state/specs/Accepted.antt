@@ -90,7 +90,8 @@ idsZero x = allZero (drop (x .count) (x .ids))
 abbrev pub isFlag : ℕ → Bool
 isFlag n = leb n 1
 
--- all of them; after the list's last, 'a held frame that the frame table can't leave, its owed number included', the two flags
+-- all of them; after the list's last, 'a held frame that the frame table can't leave, its owed
+-- number included', the two flags
 abbrev pub items : State → List Bool
 items s =
     modeNamed (s .mode)

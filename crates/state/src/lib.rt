@@ -52,7 +52,8 @@ pub const DRIVE: u8 = 1;
 
 pub const DIRECT: u8 = 2;
 
-// A flag of the record. It is a number and no bool, so that any byte that is lent is one; another than these two is a bad record.
+// A flag of the record. It is a number and no bool, so that any byte that is lent is one; another
+// than these two is a bad record.
 pub const NO: u8 = 0;
 
 pub const YES: u8 = 1;
