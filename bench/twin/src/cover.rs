@@ -159,8 +159,12 @@ impl Observer for Cover {
         self.first_bytes = first_bytes(call, board);
         if check::is_good(board) {
             self.counts.count_held(&board.held);
+            self.counts.count_owed(&board.held);
         } else {
             self.broken = check::only_broken(board);
+            if matches!(self.broken, Some(Item::HeldBytes | Item::HeldOwed)) {
+                self.counts.count_owed(&board.held);
+            }
             self.flags.count(call, board);
         }
         if let Some(row) = held_demo(board) {

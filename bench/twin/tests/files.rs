@@ -329,6 +329,15 @@ fn cover_counts_of_counts() {
         file.extend_from_slice(&layout::state_bytes(&board));
         file.push(3);
     }
+    // What such a frame may owe at the ends, and just may not.
+    for (count, owed) in [(255, 0), (255, 1), (255, 255), (255, 256), (0, 0)] {
+        let mut board = Board::power_on();
+        board.held.places[..2].copy_from_slice(&[152, count]);
+        (board.held.used, board.held.owed) = (2, owed);
+        file.push(131);
+        file.extend_from_slice(&layout::state_bytes(&board));
+        file.push(4);
+    }
     let expected = [
         "count 140 1 1",
         "count 140 2 1",
@@ -337,11 +346,20 @@ fn cover_counts_of_counts() {
         "past 140 33-255 1",
         "past 149 18-32 1",
         "past 152 1-16 1",
+        "past 152 17-255 1",
+        "owed 148 all 1",
+        "owed 152 none 1",
+        "owed 152 one 1",
+        "owed 152 all 1",
+        "owed 152 too-many 1",
+        "owed 152 count-0 1",
     ];
     let met = met(&file);
-    let counts = met
-        .iter()
-        .filter(|row| row.starts_with("count") || row.starts_with("past"));
+    let counts = met.iter().filter(|row| {
+        ["count", "past", "owed"]
+            .iter()
+            .any(|head| row.starts_with(head))
+    });
     assert_eq!(counts.collect::<Vec<_>>(), expected);
 }
 

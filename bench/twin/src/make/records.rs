@@ -3,7 +3,7 @@
 
 use crate::board::{Board, Mode, Number, StreamList, WheelOrder, LIST_PLACES};
 use crate::check::{self, Item};
-use crate::frame::{HeldFrame, FRAME_PLACES};
+use crate::frame::{self, HeldFrame, FRAME_PLACES};
 use crate::layout::{self, STATE_BYTES};
 use crate::packet::{Image, IMAGE_BYTES};
 
@@ -161,7 +161,7 @@ fn break_item(rng: &mut Rng, board: &mut Board, item: Item) {
             set_list(board, &ids);
         }
         Item::SongLength => {
-            let song = &mut board.songs[rng.below(16)];
+            let song = &mut board.songs[first_last_or_any(rng)];
             rng.fill(&mut song.notes);
             song.length = beyond(rng, 17);
         }
@@ -172,7 +172,7 @@ fn break_item(rng: &mut Rng, board: &mut Board, item: Item) {
             board.playing = 1;
         }
         Item::UnusedSong => {
-            let song = &mut board.songs[rng.below(16)];
+            let song = &mut board.songs[first_last_or_any(rng)];
             let used = 2 * usize::from(song.length);
             touch_unused(rng, &mut song.notes, used);
         }
@@ -187,6 +187,12 @@ fn break_item(rng: &mut Rng, board: &mut Board, item: Item) {
         Item::HeldBytes => hold_wrong_bytes(rng, board),
         Item::HeldOwed => owe_wrong(rng, board),
     }
+}
+
+/// The number of a song.
+fn first_last_or_any(rng: &mut Rng) -> usize {
+    let any = rng.below(16);
+    rng.pick(&[0, 15, any])
 }
 
 /// A byte past a range that ends before `first`: the first, the last or any.
@@ -394,6 +400,24 @@ fn with_no_flag(rng: &mut Rng) -> Board {
     board
 }
 
+/// A record past its count that owes what it just may, or just may not; or with a
+/// count of 0, which would have ended the frame.
+fn past_its_count(rng: &mut Rng) -> Board {
+    let mut board = good(rng);
+    let opcode = rng.pick(&[140, 148, 149, 152]);
+    let least = if opcode == 152 { 1 } else { 17 };
+    let any = rng.byte(least, 255);
+    let count = rng.pick(&[0, least, 255, any]);
+    let all = usize::from(frame::bytes_after_count(opcode, count));
+    let owed = rng.pick(&[0, 1, all, all + 1]);
+    if opcode == 140 {
+        hold(&mut board, &[opcode, rng.any(), count], owed);
+    } else {
+        hold(&mut board, &[opcode, count], owed);
+    }
+    board
+}
+
 /// A record of any bytes, of which hardly one is good.
 fn any(rng: &mut Rng) -> Board {
     let mut bytes = [0; STATE_BYTES];
@@ -446,6 +470,7 @@ pub fn records(tape: &mut Tape, rng: &mut Rng) {
             5..=8 => at_an_end(rng),
             9 => with_no_flag(rng),
             10 => any(rng),
+            11 => past_its_count(rng),
             _ => {
                 let item = rng.pick(&Item::ALL);
                 broken(rng, item)
