@@ -88,8 +88,9 @@ wordRight x = eqb (wordFrom (x .text) (x .from) .start) (x .start) && eqb (wordF
 
 -- ---- lines
 
--- a place in a block, the bytes of the line that are there, and the line's room; and what comes of it
+-- a block, a place in it, the bytes of the line that are there, and the line's room; and what comes of it
 pub record Gathering : Type 0 where
+  pub block : List ℕ
   pub from : ℕ
   pub size : ℕ
   pub room : ℕ
@@ -98,12 +99,13 @@ pub record Gathering : Type 0 where
   pub ended : Bool
   pub cut : Bool
 
-abbrev gathers : ℕ → ℕ → ℕ → List ℕ → ℕ → Bool → Bool → Gathering
-gathers from size room bytes next ended cut = record { from = from; size = size; room = room; bytes = bytes; next = next; ended = ended; cut = cut }
+abbrev gathersIn : List ℕ → ℕ → ℕ → ℕ → List ℕ → ℕ → Bool → Bool → Gathering
+gathersIn block from size room bytes next ended cut =
+    record { block = block; from = from; size = size; room = room; bytes = bytes; next = next; ended = ended; cut = cut }
 
--- ab, a newline, a newline, cde
-abbrev block : List ℕ
-block = 97 ∷ 98 ∷ 10 ∷ 10 ∷ 99 ∷ 100 ∷ 101 ∷ []
+-- of ab, a newline, a newline, cde
+abbrev gathers : ℕ → ℕ → ℕ → List ℕ → ℕ → Bool → Bool → Gathering
+gathers = gathersIn (97 ∷ 98 ∷ 10 ∷ 10 ∷ 99 ∷ 100 ∷ 101 ∷ [])
 
 abbrev pub lineCases : List Gathering
 lineCases =
@@ -120,12 +122,14 @@ lineCases =
     ∷ gathers 0 9 7 [] 3 true true
     -- past the end
     ∷ gathers 9 0 7 [] 9 false false
+    -- a newline that is the block's last byte
+    ∷ gathersIn (97 ∷ 10 ∷ []) 0 0 16 (97 ∷ []) 2 true false
     ∷ []
 
 abbrev pub lineRight : Gathering → Bool
 lineRight x =
-    let g = gatheredOf block (x .from) (x .size) (x .room) in
-    sameList (partOf block (x .from) (x .size) (x .room)) (x .bytes)
+    let g = gatheredOf (x .block) (x .from) (x .size) (x .room) in
+    sameList (partOf (x .block) (x .from) (x .size) (x .room)) (x .bytes)
     && (eqb (g .next) (x .next) && (Bool·beq (g .ended) (x .ended) && Bool·beq (g .cut) (x .cut)))
 
 -- THEOREM: the reader in numbers
