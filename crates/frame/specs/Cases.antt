@@ -92,8 +92,10 @@ announces bs count n stores =
     caseRight (leaves bs count header n)
     && (eqb n 0 || caseRight (leaves header 7 (cond stores (snoc header 7) header) (n - 1)))
 
--- a count is that of the bytes to come, in a 140 half of it; stored up to 16, in a 152 never
+-- a count is that of the bytes to come, in a 140 half of it, whatever the song number; stored up to
+-- 16, in a 152 never
 abbrev pub countRight : ℕ → Bool
 countRight n =
     all (λ op. announces (op ∷ []) n n (leb n 16)) (148 ∷ 149 ∷ [])
-    && (announces (152 ∷ []) n n false && announces (140 ∷ 0 ∷ []) n (2 * n) (leb n 16))
+    && (announces (152 ∷ []) n n false
+    && all (λ number. announces (140 ∷ number ∷ []) n (2 * n) (leb n 16)) (0 ∷ 255 ∷ []))
