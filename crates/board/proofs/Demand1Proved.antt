@@ -21,7 +21,7 @@ use Rattle.state.specs.declared.State.{State}
 use Rattle.state.proofs.RecordProved.{accepted-stays}
 use Rattle.board.specs.Outcome.{Outcome, gives, answered, written}
 use Rattle.board.specs.Calls.{byteOf, reportOf, tickOf, songEndOf, Performed, performed, readBy, reads, readsNone, feed, runOf, ranAs, Call, byte, run, report, tick, songEnd, perform, bytesOf}
-use Rattle.board.specs.Demand1.{GivenBack, numbersOf, bufferOf, leftBy, outcome, Demand1}
+use Rattle.board.specs.Demand1.{AsCited, GivenBack, numbersOf, bufferOf, leftBy, outcome, Demand1}
 use Rattle.board.proofs.JudgeLaws.{judge-small, judge-refused, judge-room}
 use Rattle.board.proofs.CallsLaws.{checked-bad, messageOf, takes-accepted, judgedAt, byte-bad, byte-is, byte-eight, byte-nine, byte-accepted, report-is, tick-is, song-end-is, feed-is, run-is}
 
@@ -159,11 +159,22 @@ given-back =
       count-back = λ p. refl;
     }
 
+as-cited : (s : State) → AsCited s
+as-cited s =
+    record {
+      of-byte = λ b image buffer. refl;
+      of-run = λ bs image buffer. refl;
+      of-report = λ dropped cliff charger. refl;
+      of-tick = λ image buffer. refl;
+      of-song-end = refl;
+    }
+
 pub demand-1 : Demand1
 unfolding answered written overwrite
 demand-1 =
     record {
       given-back = given-back;
+      as-cited = as-cited;
       numbers-given = λ s c. told s c .numbered;
       bad-eight = bad-eight;
       eight-bad = λ s c t u. stays s c t u .0;
@@ -172,7 +183,6 @@ demand-1 =
       read-past = λ s c. told s c .leaves;
       bytes-taken = λ s c e. taken s c e .0;
       all-read = λ s c e. taken s c e .1;
-      length-answer = λ s c. refl;
       room-enough = λ s c. told s c .fits;
       answer-there = λ s c. take-append-seam (outcome s c .answer) (drop (length (outcome s c .answer)) (bufferOf c));
       rest-kept = λ s c. drop-append-seam (outcome s c .answer) (drop (length (outcome s c .answer)) (bufferOf c));

@@ -1,8 +1,11 @@
 -- Demand 2.
 -- Assumes nothing.
-use mathlib.Core.Path.{refl}
+use mathlib.Core.Path.{_≡_, refl}
 use mathlib.Core.List.{flatten, flatMap}
+use lib.Dec.{T, eqb, eqb→eq}
+use mir.Facts.{and-yes}
 use Rattle.wire.specs.Sixteen.{read16Of}
+use Rattle.wire.proofs.ListsLaws.{same-list}
 use Rattle.frame.specs.FrameTable.{dataLength}
 use Rattle.frame.specs.Push.{bodySizeAs}
 use Rattle.frame.specs.Reach.{reachableOf}
@@ -17,12 +20,24 @@ use Rattle.command.proofs.CommandsProved.{commands-in-numbers, mode-column, dat
 use Rattle.state.specs.State.{motorsOff}
 use Rattle.state.specs.Accepted.{modeNamed, orderNamed, offUnlessDriven, wheelsLegal, dutiesLegal, outputsLegal, baudLegal, selectedLegal, streamLegal, lengthLegal, playingSet, notesZero, idsZero, motorsTyped, keptTyped, songTyped, songsTyped, streamTyped, typed, acceptedOf}
 use Rattle.state.proofs.RecordProved.{setters-right, power-on-right, stop-right, accepted-exactly}
+use Rattle.state.specs.Same.{sameState}
 use Rattle.state.proofs.SameLaws.{same-exactly}
+use Rattle.board.specs.Outcome.{Outcome, sameOutcome}
 use Rattle.board.specs.Judge.{statusOf, judgeOf}
 use Rattle.board.specs.Calls.{fedOf, byteOf, chunkNow, tickOf, runOf}
 use Rattle.board.specs.Demand2.{Demand2}
 use Rattle.board.proofs.RulesProved.{rules-right}
 use Rattle.board.proofs.SentLaws.{read-back}
+
+outcomes-same : (a b : Outcome) → T (sameOutcome a b) → a ≡ b
+outcomes-same a b t =
+    let x = and-yes (eqb (a .number) (b .number)) _ t in
+    let y = and-yes (sameState (a .state) (b .state)) _ (x .1) in
+    rw (
+      eqb→eq (a .number) (b .number) (x .0),
+      same-exactly .same-equal (a .state) (b .state) (y .0),
+      same-list (a .answer) (b .answer) (y .1),
+    )
 
 -- the tables of cases are computed: each `tt` and each `refl`
 pub demand-2 : Demand2
@@ -57,6 +72,7 @@ demand-2 =
       rejected = tt;
       named-cases = tt;
       records-same = same-exactly;
+      outcomes-same = outcomes-same;
       write-then-read = read-back;
       read-then-write = round-trip;
     }

@@ -2,7 +2,7 @@
 -- writes nothing (document 01, 'Numbers given back').
 -- Assumes nothing.
 use mathlib.Core.Path.{_≡_}
-use mathlib.Core.Bool.{false}
+use mathlib.Core.Bool.{Bool, false}
 use mathlib.Core.List.{List, [], _∷_}
 use Prim.Native.Nat.{ℕ, _≤_}
 use lib.Dec.{T}
@@ -13,7 +13,7 @@ use Rattle.state.specs.State.{withPartial}
 use Rattle.state.specs.Accepted.{acceptedOf}
 use Rattle.state.specs.declared.State.{State}
 use Rattle.board.specs.Outcome.{Outcome, gives, answered, written}
-use Rattle.board.specs.Calls.{Performed, performed, ranAs, Call, byte, run, report, tick, songEnd, perform, bytesOf, bytesIn}
+use Rattle.board.specs.Calls.{byteOf, reportOf, tickOf, songEndOf, Performed, performed, runOf, ranAs, Call, byte, run, report, tick, songEnd, perform, bytesOf, bytesIn}
 
 -- the numbers that a call can give
 abbrev pub numbersOf : Call → List ℕ
@@ -50,9 +50,18 @@ pub record GivenBack : Type 0 where
   pub run-back : (p : Performed) → (ranAs p .number ≡ p .outcome .number) × ((ranAs p .length ≡ length (p .outcome .answer)) × (ranAs p .state ≡ p .outcome .state))
   pub count-back : (p : Performed) → ranAs p .read ≡ p .read
 
+-- a call of this record, as all three demands speak of it, is what its contract cites
+pub record AsCited (s : State) : Type 0 where
+  pub of-byte : (b : ℕ) (image buffer : List ℕ) → outcome s (byte b image buffer) ≡ byteOf s b image (length buffer)
+  pub of-run : (bs image buffer : List ℕ) → perform s (run bs image buffer) ≡ runOf s bs image (length buffer)
+  pub of-report : (dropped cliff charger : Bool) → outcome s (report dropped cliff charger) ≡ reportOf s dropped cliff charger
+  pub of-tick : (image buffer : List ℕ) → outcome s (tick image buffer) ≡ tickOf s image (length buffer)
+  pub of-song-end : outcome s songEnd ≡ songEndOf s
+
 -- THEOREM: demand 1, for every record, every call and every buffer
 pub record Demand1 : Type 0 where
   pub given-back : GivenBack
+  pub as-cited : (s : State) → AsCited s
   pub numbers-given : (s : State) (c : Call) → T (among (numbersOf c) (outcome s c .number))
   -- 8 for a record that isn't accepted: record and buffer as they came, and no byte read
   pub bad-eight : (s : State) (c : Call) → acceptedOf s ≡ false → perform s c ≡ performed (gives 8 s) 0
@@ -66,8 +75,7 @@ pub record Demand1 : Type 0 where
   -- 9: the bytes are taken, and all else is as it was
   pub bytes-taken : (s : State) (c : Call) → outcome s c .number ≡ 9 → outcome s c .state ≡ withPartial (afterOf (s .partial) (bytesIn s c)) s
   pub all-read : (s : State) (c : Call) → outcome s c .number ≡ 9 → perform s c .read ≡ length (bytesOf c)
-  -- 0: the length is that of the answer, never above the room; that many bytes from the buffer's start are the answer, and no other changes
-  pub length-answer : (s : State) (c : Call) → answered (outcome s c) .length ≡ length (outcome s c .answer)
+  -- 0: the answer is never above the room; as many bytes from the buffer's start are the answer, and no other changes
   pub room-enough : (s : State) (c : Call) → length (outcome s c .answer) ≤ length (bufferOf c)
   pub answer-there : (s : State) (c : Call) → take (length (outcome s c .answer)) (written (outcome s c) (bufferOf c)) ≡ outcome s c .answer
   pub rest-kept : (s : State) (c : Call)

@@ -20,6 +20,7 @@ use Rattle.state.specs.Accepted.{acceptedOf}
 use Rattle.state.specs.Record.{PowerOnRight, StopRight, SettersRight, AcceptedExactly}
 use Rattle.state.specs.Same.{SameExactly}
 use Rattle.state.specs.declared.State.{State}
+use Rattle.board.specs.Outcome.{Outcome, sameOutcome}
 use Rattle.board.specs.Judge.{judgeOf}
 use Rattle.board.specs.Calls.{byteOf, performed, runOf, Call, byte, perform, after, numbers}
 use Rattle.board.specs.Rules.{RulesRight}
@@ -79,8 +80,9 @@ pub record Demand2 : Type 0 where
   -- which rejects each wrong board, and by the case that is named for it
   pub rejected : T (all (λ r. not (boardPasses (r .board) shownCases)) rejections)
   pub named-cases : T (all rejects rejections)
-  -- in both tables the records compared are equal
+  -- in both tables what is compared is equal
   pub records-same : SameExactly
+  pub outcomes-same : (a b : Outcome) → T (sameOutcome a b) → a ≡ b
   -- what our writer writes is read back, whatever stands in the places that are not in use
   pub write-then-read : (m : Message) → legalOf m ≡ true → T (byteArray 32 (m .payload))
       → (s : State) → T (acceptedOf s) → s .partial ≡ emptyPartial → ReadBack m s
