@@ -155,4 +155,5 @@ some p bs h =
     (eq-zero-or-pos (p .remaining))
 
 pub taken-at-once : TakenAtOnce
-taken-at-once = record { steps = steps; some = some }
+unfolding absorbOf
+taken-at-once = record { steps = steps; some = some; none = λ p. refl }

@@ -64,3 +64,5 @@ pub record TakenAtOnce : Type 0 where
   pub steps : (p : Partial) (bs : List ℕ) → T (reachableOf p) → 0 < length bs → Steps p bs (absorbOf p bs)
   -- of every frame, reachable or not: at least one is taken, and no more than there are
   pub some : (p : Partial) (bs : List ℕ) → 0 < length bs → (1 ≤ absorbOf p bs .count) × (absorbOf p bs .count ≤ length bs)
+  -- of an empty slice none is, and nothing is complete
+  pub none : (p : Partial) → absorbOf p [] ≡ record { partial = p; complete = false; count = 0 }
