@@ -125,6 +125,9 @@ w4 = refusing (ready 1) (waiting (137 ∷ 255 ∷ 56 ∷ 1 ∷ []) (244 giving 3
 abbrev w11Bytes : List ℕ
 w11Bytes = span 100 40 ++ (1 ∷ 3 ∷ 0 ∷ 2 ∷ replicate 8 0)
 
+abbrev w11 : ByteCase
+w11 = answering (ready 1) 52 (142 giving 9 ∷ 6 giving 0 ∷ []) w11Bytes
+
 -- not streaming
 abbrev paused : State
 paused = withStreaming 0 (ready 1)
@@ -150,7 +153,7 @@ byteCases =
     ∷ answering (ready 1) 0 (149 giving 9 ∷ 0 giving 0 ∷ []) []
     -- W11
     ∷ answering (ready 1) 51 (142 giving 9 ∷ 6 giving 7 ∷ []) []
-    ∷ answering (ready 1) 52 (142 giving 9 ∷ 6 giving 0 ∷ []) w11Bytes
+    ∷ w11
     -- W12
     ∷ feeding paused (waiting (148 ∷ 4 ∷ 6 ∷ 6 ∷ 6 ∷ []) (6 giving 0)) (withStreaming 1 (withList 4 (padded 16 (6 ∷ 6 ∷ 6 ∷ 6 ∷ [])) paused))
     ∷ refusing paused (waiting (148 ∷ 5 ∷ 6 ∷ 6 ∷ 6 ∷ 6 ∷ []) (6 giving 4))
@@ -197,6 +200,10 @@ alwaysZero s c = let p = perform s c in cond (eqb (p .outcome .number) 9) p (num
 abbrev pub doesNothing : Board
 doesNothing s c = let p = perform s c in performed (gives (p .outcome .number) s) (p .read)
 
+-- right in all but its answers, which are empty
+abbrev answersNothing : Board
+answersNothing s c = let p = perform s c in performed (gives (p .outcome .number) (p .outcome .state)) (p .read)
+
 -- right in all but its runs
 abbrev runningBy : (State → List ℕ → List ℕ → List ℕ → Performed) → Board
 runningBy f s (byte b image buffer) = perform s (byte b image buffer)
@@ -219,7 +226,8 @@ countsSlice = runningBy (λ s bs image buffer. performed (runOf s bs image (leng
 abbrev countsLess : Board
 countsLess = runningBy (λ s bs image buffer. let p = runOf s bs image (length buffer) in performed (p .outcome) (p .read - 1))
 
--- a wrong board, and the case that rejects it: the one that document 01 names, and for a count W3, in a run that leaves bytes unread
+-- a wrong board, and the case that rejects it: the one that document 01 names, for a count W3, in a
+-- run that leaves bytes unread, and for an answer W11
 pub record Rejection : Type 0 where
   pub board : Board
   pub case : ByteCase
@@ -233,6 +241,7 @@ rejections =
     ∷ by staysPassive w3
     ∷ by alwaysZero w4
     ∷ by doesNothing w1
+    ∷ by answersNothing w11
     ∷ by firstByteOnly w3
     ∷ by countsSlice w3
     ∷ by countsLess w3
