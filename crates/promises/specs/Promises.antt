@@ -22,13 +22,13 @@ pub record Promises : Type 0 where
   -- one number, changes nothing but the frame that it reads past, and writes nothing; a good record
   -- stays good.
   pub demand-1 : Demand1
-  -- How bytes are cut into commands, what each command does in each mode, sensor packets and stream
-  -- chunks are those of the published rules, for every record and every value; what our host-side
-  -- writer writes is read as it was meant.
+  -- How bytes are cut into commands, what each command and each other call does in each mode, which
+  -- records are bad, sensor packets and stream chunks are those of the rules (document 01, with
+  -- requests One to Three); what our host-side writer writes is read as it was meant.
   pub demand-2 : Demand2
-  -- When the driver is gone: after any calls that read at least 511 bytes, all 128, the base has
-  -- stopped, with all motors off and no command half read, whatever it was doing before; and fewer
-  -- bytes would not always do.
+  -- When the driver is gone: after any calls that read at least 511 bytes, all 128, the base is in
+  -- Passive with all motors off and no command half read, whatever good record it began with; and
+  -- fewer bytes would not always do.
   pub demand-3 : Demand3
   -- ---- beside them: the wheels
 
@@ -38,12 +38,12 @@ pub record Promises : Type 0 where
   pub wheel-speeds : StageRight
   -- ---- what the demands rest on, below the board
 
-  -- The data bytes of a command still to come are all needed, whatever they are: none of them is
-  -- taken for a command.
+  -- Once a command's length is known, the data bytes still to come are all needed, whatever they
+  -- are: none of them is taken for a command.
   pub data-needed : RemainingNeeded
   -- What one byte can leave of any half-read command, also of one that no bytes could have left.
   pub one-byte : EveryPush
-  -- Bytes that come together leave what they would leave one by one.
+  -- Bytes of one command that come together leave what they would leave one by one.
   pub together : TakenAtOnce
   -- Every reason for which a state record is refused, in numbers, each beside a good neighbour.
   pub refused-records : RecordsInNumbers
@@ -58,6 +58,6 @@ pub record Promises : Type 0 where
   pub one-byte-shown : BytesShown
   -- ---- what the programs read
 
-  -- The words and numbers that a person types are found where they stand, and one that is too large
-  -- is told.
+  -- Worked cases: words and numbers that a person types are found where they stand, and one that is
+  -- too large is told.
   pub typed-lines : LinesInNumbers
