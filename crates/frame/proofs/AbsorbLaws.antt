@@ -155,5 +155,4 @@ some p bs h =
     (eq-zero-or-pos (p .remaining))
 
 pub taken-at-once : TakenAtOnce
-unfolding absorbOf
-taken-at-once = record { steps = steps; some = some; none = λ p. refl }
+taken-at-once = record { steps = steps; some = some; none = λ p. absorb-none p [] refl }

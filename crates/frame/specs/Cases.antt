@@ -29,15 +29,11 @@ goesOn bs b kept n = record { before = bs; last = b; kept = kept; remaining = n;
 abbrev leaves : List ℕ → ℕ → List ℕ → ℕ → FrameCase
 leaves bs b kept n = record { before = bs; last = b; kept = kept; remaining = n; complete = eqb n 0 }
 
+-- bytes after the opcode; opcodes and counts have tables of their own below
 abbrev pub frameCases : List FrameCase
 frameCases =
-    -- no data bytes; unknown opcodes
-    ends [] 128 (128 ∷ [])
-    ∷ ends [] 146 (146 ∷ [])
-    ∷ ends [] 255 (255 ∷ [])
     -- the number of a Demo is no opcode, not even 128
-    ∷ goesOn [] 136 (136 ∷ []) 1
-    ∷ ends (136 ∷ []) 255 (136 ∷ 255 ∷ [])
+    ends (136 ∷ []) 255 (136 ∷ 255 ∷ [])
     ∷ ends (136 ∷ []) 128 (136 ∷ 128 ∷ [])
     -- W3: a Drive is kept whole
     ∷ goesOn (137 ∷ []) 255 (137 ∷ 255 ∷ []) 3
@@ -47,14 +43,8 @@ frameCases =
     ∷ ends (156 ∷ 1 ∷ []) 2 (156 ∷ 1 ∷ 2 ∷ [])
     ∷ goesOn (157 ∷ []) 1 (157 ∷ 1 ∷ []) 1
     ∷ ends (157 ∷ 1 ∷ []) 2 (157 ∷ 1 ∷ 2 ∷ [])
-    -- W8, W9: 140 0 0 ends at its third byte; 140 0 255 has 510 remaining
-    ∷ goesOn [] 140 (140 ∷ []) 0
+    -- a song number
     ∷ goesOn (140 ∷ []) 0 (140 ∷ 0 ∷ []) 0
-    ∷ ends (140 ∷ 0 ∷ []) 0 (140 ∷ 0 ∷ 0 ∷ [])
-    ∷ goesOn (140 ∷ 0 ∷ []) 255 (140 ∷ 0 ∷ 255 ∷ []) 510
-    -- W10: a count of 0 ends the frame
-    ∷ goesOn [] 149 (149 ∷ []) 0
-    ∷ ends (149 ∷ []) 0 (149 ∷ 0 ∷ [])
     -- illegal data under a legal count are kept
     ∷ goesOn (140 ∷ 16 ∷ 16 ∷ []) 60 (140 ∷ 16 ∷ 16 ∷ 60 ∷ []) 31
     ∷ goesOn (148 ∷ 16 ∷ []) 99 (148 ∷ 16 ∷ 99 ∷ []) 15
