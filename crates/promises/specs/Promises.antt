@@ -47,7 +47,7 @@ pub record Promises : Type 0 where
   pub together : TakenAtOnce
   -- Every reason for which a state record is refused, in numbers, each beside a good neighbour.
   pub refused-records : RecordsInNumbers
-  -- Whatever a command with legal data sets in a good record, the record stays good.
+  -- Whatever a command that is not refused sets in a good record, the record stays good.
   pub good-records : AcceptedStays
   -- An answer is written whole, from the start of the lent buffer, or not at all.
   pub answers-whole : RepliesTell
