@@ -162,6 +162,7 @@ round-trip-bits half =
     record {
       read-written = read-written half;
       written-read = written-read half;
+      positive = λ n. refl;
       complement = λ n h. omega arith;
       bits-fit = bits-fit half;
       read-fits = read-fits half;

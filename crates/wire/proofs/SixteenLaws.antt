@@ -1,6 +1,6 @@
 -- The round trip of sixteen-bit numbers, high byte first.
 -- Assumes nothing.
-use mathlib.Core.Path.{_≡_, refl, ap, ap₂, _∙_}
+use mathlib.Core.Path.{_≡_, ap, ap₂, _∙_}
 use mathlib.Core.List.{[], _∷_}
 use Prim.Native.Nat.{ℕ, _+_, _*_, _/_, _%_, _<_}
 use native.Mathlib.Omega.{arith}
@@ -14,11 +14,12 @@ use Rattle.wire.proofs.SignedLaws.{round-trip-bits}
 abbrev bits : RoundTripBits 32768
 bits = round-trip-bits 32768
 
+high-first : (v : ℤ) → high16Of v * 256 + low16Of v ≡ bits16Of v
+high-first v = omega arith
+
 read-written : (v : ℤ) → SFits w16 v → read16Of (high16Of v) (low16Of v) ≡ v
 unfolding read16Of
-read-written v f =
-    let e : high16Of v * 256 + low16Of v ≡ bits16Of v = omega arith in
-    ap signed16 e ∙ bits .read-written v (f .sfits)
+read-written v f = ap signed16 (high-first v) ∙ bits .read-written v (f .sfits)
 
 written-read : (hi lo : ℕ) → hi < 256 → lo < 256 → be16 (read16Of hi lo) ≡ hi ∷ lo ∷ []
 unfolding read16Of
@@ -37,15 +38,11 @@ low-of-byte (pos n) f = omega (arith, f .sfits)
 low-of-byte (negsuc n) f = omega (arith, f .sfits)
 
 pub round-trip16 : RoundTrip16
-unfolding read16Of
 round-trip16 =
     record {
       read-written = read-written;
       written-read = written-read;
-      w3 = (refl, refl);
-      w5 = (refl, refl);
-      w6-right = (refl, refl);
-      w6-left = (refl, refl);
+      high-first = high-first;
       low-of-byte = low-of-byte;
       high-byte = λ v f. (let s = bits .bits-fit v (f .sfits) in omega arith);
       low-byte = λ v. omega arith;

@@ -32,7 +32,8 @@ pub record RoundTripBits (half : ℕ) : Type 0 where
   -- mag is n of pos n and of negsuc n: below half for the numbers from -half to half - 1
   pub read-written : (v : ℤ) → mag v < half → signedOf half (bitsOf half v) ≡ v
   pub written-read : (n : ℕ) → n < 2 * half → bitsOf half (signedOf half n) ≡ n
-  -- the bits of -(n + 1) and n + 1 make 2 to the width
+  -- n is its own bits, and those of -(n + 1) and n + 1 make 2 to the width
+  pub positive : (n : ℕ) → bitsOf half (pos n) ≡ n
   pub complement : (n : ℕ) → n < half → bitsOf half (negsuc n) + (n + 1) ≡ 2 * half
   -- as many bits as the width has are enough, and what they say is one of its numbers
   pub bits-fit : (v : ℤ) → mag v < half → bitsOf half v < 2 * half

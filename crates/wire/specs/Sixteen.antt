@@ -3,7 +3,7 @@
 use mathlib.Core.Path.{_≡_}
 use mathlib.Core.List.{List, [], _∷_}
 use Prim.Native.Nat.{ℕ, _+_, _*_, _/_, _%_, _<_}
-use lib.IntN.{ℤ, pos, negsuc, negℤ}
+use lib.IntN.{ℤ, pos, negℤ}
 use mir.Syntax.{w8, w16}
 use mir.Val.{SFits}
 use Rattle.wire.specs.Signed.{bitsOf, signedOf, bits8Of}
@@ -34,19 +34,12 @@ signed16 = signedOf 32768
 unfoldable pub read16Of : ℕ → ℕ → ℤ
 read16Of hi lo = signed16 (hi * 256 + lo)
 
--- a value and its two bytes, both ways
-abbrev pub Shown : ℤ → ℕ → ℕ → Type 0
-Shown v hi lo = (be16 v ≡ hi ∷ lo ∷ []) × (read16Of hi lo ≡ v)
-
 -- THEOREM: what is written is read back, and what is read is written back, for every value of i16 and all bytes
 pub record RoundTrip16 : Type 0 where
   pub read-written : (v : ℤ) → SFits w16 v → read16Of (high16Of v) (low16Of v) ≡ v
   pub written-read : (hi lo : ℕ) → hi < 256 → lo < 256 → be16 (read16Of hi lo) ≡ hi ∷ lo ∷ []
-  -- the values of W3, W5 and W6: -200; -32768, which has no opposite; 500; -500
-  pub w3 : Shown (negsuc 199) 255 56
-  pub w5 : Shown (negsuc 32767) 128 0
-  pub w6-right : Shown (pos 500) 1 244
-  pub w6-left : Shown (negsuc 499) 254 12
+  -- high byte first
+  pub high-first : (v : ℤ) → high16Of v * 256 + low16Of v ≡ bits16Of v
   -- the low byte of a number that a signed byte can say is that byte
   pub low-of-byte : (v : ℤ) → SFits w8 v → low16Of v ≡ bits8Of v
   -- both bytes are bytes, and the number is one of i16
