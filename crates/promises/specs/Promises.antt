@@ -33,8 +33,9 @@ pub record Promises : Type 0 where
   -- ---- beside them: the wheels
 
   -- The speed that each wheel is given on a curve is the nearest whole number to the exact one,
-  -- never above 500 mm/s either way, with a flag that tells when it was cut down to that; where the
-  -- motors are off, the wheels stand.
+  -- never above 500 mm/s either way, with a flag that tells when it was cut down to that. Straight
+  -- on, on the spot and wheel by wheel are as ordered; where the motors are off, the wheels stand;
+  -- an order that is not legal is refused.
   pub wheel-speeds : StageRight
   -- ---- what the demands rest on, below the board
 
@@ -43,7 +44,8 @@ pub record Promises : Type 0 where
   pub data-needed : RemainingNeeded
   -- What one byte can leave of any half-read command, also of one that no bytes could have left.
   pub one-byte : EveryPush
-  -- Bytes of one command that come together leave what they would leave one by one.
+  -- Bytes of one command that come together leave what they would leave one by one, of every
+  -- half-read command that bytes can have left.
   pub together : TakenAtOnce
   -- Every reason for which a state record is refused, in numbers, each beside a good neighbour.
   pub refused-records : RecordsInNumbers
