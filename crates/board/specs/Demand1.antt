@@ -75,7 +75,8 @@ pub record Demand1 : Type 0 where
   -- 9: the bytes are taken, and all else is as it was
   pub bytes-taken : (s : State) (c : Call) → outcome s c .number ≡ 9 → outcome s c .state ≡ withPartial (afterOf (s .partial) (bytesIn s c)) s
   pub all-read : (s : State) (c : Call) → outcome s c .number ≡ 9 → perform s c .read ≡ length (bytesOf c)
-  -- 0: the answer is never above the room; as many bytes from the buffer's start are the answer, and no other changes
+  -- 0: the answer is never above the room; as many bytes from the buffer's start are the answer,
+  -- and no other changes
   pub room-enough : (s : State) (c : Call) → length (outcome s c .answer) ≤ length (bufferOf c)
   pub answer-there : (s : State) (c : Call) → take (length (outcome s c .answer)) (written (outcome s c) (bufferOf c)) ≡ outcome s c .answer
   pub rest-kept : (s : State) (c : Call)

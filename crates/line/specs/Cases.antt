@@ -88,7 +88,8 @@ wordRight x = eqb (wordFrom (x .text) (x .from) .start) (x .start) && eqb (wordF
 
 -- ---- lines
 
--- a block, a place in it, the bytes of the line that are there, and the line's room; and what comes of it
+-- a block, a place in it, the bytes of the line that are there, and the line's room; and what comes
+-- of it
 pub record Gathering : Type 0 where
   pub block : List ℕ
   pub from : ℕ
