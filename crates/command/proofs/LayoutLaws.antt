@@ -101,13 +101,15 @@ module _ (bytes : List ℕ) where
   abbrev op : ℕ
   op = getD bytes 0 0
 
-  left-over : (n : ℕ) → suc n ≡ sort op → cond (eqb n 1) (NotOffered op) (Unknown op) ≡ commandOf bytes
+  -- an opcode that is not read
+  pub unread : among (opcodes readings) op ≡ false → commandOf bytes ≡ otherwise op
   unfolding commandOf
+  unread = look-none readings op (getD bytes 1 0) (getD bytes 2 0) (getD bytes 3 0) (getD bytes 4 0)
+
+  left-over : (n : ℕ) → suc n ≡ sort op → cond (eqb n 1) (NotOffered op) (Unknown op) ≡ commandOf bytes
   left-over n e =
       let s = sort-is (among (opcodes readings) op) (within 152 158 op) n e in
-      sym
-      (look-none readings op (getD bytes 1 0) (getD bytes 2 0) (getD bytes 3 0) (getD bytes 4 0) (s .0)
-      ∙ ap (λ (w : Bool). cond w (NotOffered op) (Unknown op)) (s .1))
+      sym (unread (s .0) ∙ ap (λ (w : Bool). cond w (NotOffered op) (Unknown op)) (s .1))
 
   -- an arm for what is left
   pub not-offered : 2 ≡ sort op → NotOffered op ≡ commandOf bytes

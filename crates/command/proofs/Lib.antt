@@ -4,3 +4,4 @@ pub mod CommandTableLaws
 pub mod FitLaws
 pub mod RoundTripLaws
 pub mod CommandsProved
+pub mod FieldsProved

@@ -4,9 +4,9 @@ use mathlib.Core.Path.{_≡_, refl, sym, ap, ap₂, subst, _∙_}
 use mathlib.Core.Bool.{Bool, true, false, not, _&&_, _||_}
 use mathlib.Core.List.{List, [], _∷_, _++_, append-assoc, map}
 use mathlib.Core.Logic.{⊎-elim}
-use Prim.Native.Nat.{ℕ, suc, _+_, _-_, _*_, _≤_}
+use Prim.Native.Nat.{ℕ, suc, _+_, _-_, _*_, _≤_, _<_}
 use native.Mathlib.Omega.{arith}
-use lib.Dec.{T, leb, ltb, eqb, leb→le, eqb→eq}
+use lib.Dec.{T, leb, ltb, eqb, leb→le, ltb→lt, eqb→eq}
 use lib.IntN.{pos}
 use lib.ListN.{length, getD, take, drop, replicate, length-drop, take-append-drop}
 use lib.Seq.{length-take-le, getD-take, take-at, take-append-seam, drop-append-seam}
@@ -117,6 +117,12 @@ module _ (m : Message) (legal : legalOf m ≡ true) where
 
   laid-of : Laid (m .command)
   laid-of = let t = to-T (legalOf m) legal in laid (m .command) (m .payload) (numbers-fit m t) t
+
+  pub opcode-byte : opcodeOf (m .command) < 256
+  opcode-byte = ltb→lt (opcodeOf (m .command)) 256 (laid-of .opcode)
+
+  pub head-says : (rest : List ℕ) → commandOf (head ++ rest) ≡ m .command
+  head-says = laid-of .back
 
   pub frame-bytes : T (allBytes (m .payload)) → T (allBytes (encodeOf m))
   unfolding encodeOf

@@ -27,11 +27,12 @@
 // bytes; a refusal writes nothing.
 ghost use mathlib.Core.Path.{_≡_};
 ghost use mathlib.Core.List.{[], _∷_, _++_};
-ghost use Rattle.wire.specs.Lists.{within};
+ghost use Rattle.wire.specs.Lists.{within, padded};
 ghost use Rattle.wire.specs.Sixteen.{be16};
 ghost use Rattle.wire.specs.Replies.{Replied};
 ghost use Rattle.command.specs.Layout.{headOf, headed, payloadSize, storedCount, commandOf, decodeOf};
 ghost use Rattle.command.specs.CommandTable.{isIn, _to_, isLegal, speed, radius, legalOf, allowedOf, writeReply};
+ghost use Rattle.command.specs.Fields.{openingOf, messageOf};
 use wire::Sent;
 
 // A command, with its numbers as a host thinks of them, in the order in which they are sent. Notes and ids, which an enum can't hold, stand
@@ -92,6 +93,20 @@ pub enum Command {
 // A command with its notes or ids, in the first places of the payload.
 pub struct Message {
     pub command: Command,
+    pub payload: [u8; 32],
+}
+
+// A message in flat fields, for callers that have no enum, as in C: the opcode, data bytes as they
+// are sent, the two words of a Drive or a Direct, and the payload. Which of them are a command's data
+// is in docs/CALLS.md; the others are ignored.
+#[repr(C)]
+pub struct Fields {
+    pub opcode: u8,
+    pub a: u8,
+    pub b: u8,
+    pub c: u8,
+    pub first: i16,
+    pub second: i16,
     pub payload: [u8; 32],
 }
 
@@ -254,6 +269,35 @@ pub fn decode(bytes: [u8; 35]) -> Message
     let size = payload_size(command);
     let mut payload = [0u8; 32];
     wire::put_part(&bytes, head.size, size, &mut payload, 0);
+    Message { command, payload }
+}
+
+// The first bytes of the frame that fields say.
+fn opening_of(fields: Fields) -> [u8; 35]
+    ensures { λ r. ⌜ r ≡ padded 35 (openingOf fields) ⌝ }
+{
+    let op = fields.opcode;
+    let mut bytes = [0u8; 35];
+    bytes[0] = op;
+    if op == 137 || op == 145 {
+        bytes[1] = wire::high16(fields.first);
+        bytes[2] = wire::low16(fields.first);
+        bytes[3] = wire::high16(fields.second);
+        bytes[4] = wire::low16(fields.second);
+        return bytes;
+    }
+    bytes[1] = fields.a;
+    bytes[2] = fields.b;
+    bytes[3] = fields.c;
+    bytes
+}
+
+// The message of flat fields.
+pub fn message_of(fields: Fields) -> Message
+    ensures { λ r. ⌜ r ≡ messageOf fields ⌝ }
+{
+    let command = command_of(opening_of(fields));
+    let payload = fields.payload;
     Message { command, payload }
 }
 

@@ -11,12 +11,8 @@
 //
 // Proved (specs/Stage.antt): each speed before the cap is the nearest whole number, the only one but at a half, and there the one further from zero; the cap
 // and its flag in every case; the speeds are odd in the velocity; no wheel is told more than 500; an accepted record's order is never refused, and in Off and
-// Passive the wheels stand. Nothing overflows for any order.
-//
-// For C, `rt staticlib drive` gives
-//
-//     typedef struct { uint8_t number; int16_t right; int16_t left; bool capped; } Speeds;
-//     Speeds wheel_speeds(uint8_t kind, int16_t first, int16_t second);
+// Passive the wheels stand. Nothing overflows for any order. For C and Rust it is `firmware`'s
+// `wheel_speeds`.
 ghost use mathlib.Core.Path.{_≡_};
 ghost use Prim.Native.Nat.{_<_, _≤_};
 ghost use lib.IntN.{natAbs, _+ℤ_, _*ℤ_};
@@ -35,7 +31,6 @@ const FASTEST: i32 = 500;
 const DONE: u8 = 0;
 
 // Document 01's number, the speed of each wheel, and whether either was capped.
-#[repr(C)]
 pub struct Speeds {
     pub number: u8,
     pub right: i16,
@@ -137,8 +132,7 @@ fn refuse() -> Speeds
 // The speeds of a wheel order as the state record has it: its kind and its two numbers. It is legal
 // by the record's own rule. What stands beside a 4 is free in the papers: both speeds are 0, and
 // neither was capped (`refused`), so that a motor stage that looks at the speeds alone stands.
-#[no_mangle]
-pub extern "C" fn wheel_speeds(kind: u8, first: i16, second: i16) -> Speeds
+pub fn wheel_speeds(kind: u8, first: i16, second: i16) -> Speeds
     ensures { λ r. ⌜ r ≡ speedsOf kind first second ⌝ }
 {
     let order = Motors {

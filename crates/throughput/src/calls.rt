@@ -7,8 +7,7 @@ use crate::layout::take;
 use crate::layout::word_at;
 use board::Answer;
 use board::Ran;
-use command::Command;
-use command::Message;
+use command::Fields;
 use state::State;
 use terminal::within;
 
@@ -108,56 +107,24 @@ fn report(state: State, flags: u8) -> Ran {
     having_read(board::safety_report(state, drop, cliff, charger), 0)
 }
 
-// A command of a message's bytes: its opcode, three bytes, and two numbers with a sign.
-fn command_of(op: u8, a: u8, b: u8, c: u8, first: i16, second: i16) -> Command {
-    match op {
-        128 => Command::Start,
-        129 => Command::Baud(a),
-        130 => Command::Control,
-        131 => Command::Safe,
-        132 => Command::Full,
-        133 => Command::Power,
-        134 => Command::Spot,
-        135 => Command::Cover,
-        136 => Command::Demo(wire::read8(a)),
-        137 => Command::Drive(first, second),
-        138 => Command::Drivers(a),
-        139 => Command::Leds(a, b, c),
-        140 => Command::Song(a, b),
-        141 => Command::Play(a),
-        142 => Command::Sensors(a),
-        143 => Command::Dock,
-        144 => Command::Duties(a, b, c),
-        145 => Command::Direct(first, second),
-        147 => Command::Outputs(a),
-        148 => Command::Stream(a),
-        149 => Command::QueryList(a),
-        150 => Command::Pause(a),
-        151 => Command::Infrared(a),
-        152..=158 => Command::NotOffered(op),
-        _ => Command::Unknown(op),
-    }
-}
-
-fn message_of(body: &[u8]) -> Message {
-    let first = wire::read16(byte_at(body, 4), byte_at(body, 5));
-    let second = wire::read16(byte_at(body, 6), byte_at(body, 7));
-    let command = command_of(
-        byte_at(body, 0),
-        byte_at(body, 1),
-        byte_at(body, 2),
-        byte_at(body, 3),
-        first,
-        second,
-    );
+// A message's bytes, field by field.
+fn fields_of(body: &[u8]) -> Fields {
     let mut payload = [0u8; 32];
     take(body, 8, &mut payload);
-    Message { command, payload }
+    Fields {
+        opcode: byte_at(body, 0),
+        a: byte_at(body, 1),
+        b: byte_at(body, 2),
+        c: byte_at(body, 3),
+        first: wire::read16(byte_at(body, 4), byte_at(body, 5)),
+        second: wire::read16(byte_at(body, 6), byte_at(body, 7)),
+        payload,
+    }
 }
 
 // The host-side writer reads and changes no record.
 fn write(state: State, body: &[u8], buffer: &mut [u8]) -> Ran {
-    let sent = command::write(message_of(body), buffer);
+    let sent = command::write(command::message_of(fields_of(body)), buffer);
     Ran {
         number: sent.number,
         length: sent.length,
