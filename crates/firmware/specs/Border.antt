@@ -1,10 +1,9 @@
--- What crosses to C is numbers alone: a bool's byte can be anything there.
+-- What crosses to C is numbers alone: the byte of a bool can be anything there.
 -- Assumes nothing.
-use mathlib.Core.Bool.{Bool, not, cond}
-use Prim.Native.Nat.{ℕ}
+use mathlib.Core.Path.{_≡_}
+use mathlib.Core.Bool.{Bool, true, false, not, cond}
+use Prim.Native.Nat.{ℕ, _<_}
 use lib.Dec.{eqb}
-use lib.ListN.{length}
-use Rattle.wire.specs.Replies.{Reply, sentOf, leftIn}
 use Rattle.drive.specs.declared.Speeds.{Speeds}
 use Rattle.firmware.specs.declared.WheelSpeeds.{WheelSpeeds}
 
@@ -19,3 +18,14 @@ flagOf b = cond b 1 0
 -- the speeds of `drive`, with such a flag
 unfoldable pub toldAs : Speeds → WheelSpeeds
 toldAs s = record { number = s .number; right = s .right; left = s .left; capped = flagOf (s .capped) }
+
+-- THEOREM: a flag is the same on both sides, and wheel speeds are as `drive` gives them
+pub record BorderRight : Type 0 where
+  pub clear : isSet 0 ≡ false
+  pub set : (flag : ℕ) → 0 < flag → isSet flag ≡ true
+  pub yes : flagOf true ≡ 1
+  pub no : flagOf false ≡ 0
+  pub same-number : (s : Speeds) → toldAs s .number ≡ s .number
+  pub same-right : (s : Speeds) → toldAs s .right ≡ s .right
+  pub same-left : (s : Speeds) → toldAs s .left ≡ s .left
+  pub same-capped : (s : Speeds) → isSet (toldAs s .capped) ≡ s .capped

@@ -5,11 +5,13 @@ use Rattle.wire.proofs.SixteenLaws.{round-trip16}
 use Rattle.wire.proofs.RepliesLaws.{replies-tell}
 use Rattle.frame.proofs.AbsorbLaws.{taken-at-once}
 use Rattle.frame.proofs.CutProved.{every-push, remaining-needed}
+use Rattle.command.proofs.FieldsProved.{fields-right}
 use Rattle.state.proofs.RecordProved.{records-in-numbers, accepted-stays}
 use Rattle.board.proofs.Demand1Proved.{demand-1}
 use Rattle.board.proofs.Demand2Proved.{demand-2}
 use Rattle.board.proofs.Demand3Proved.{demand-3}
 use Rattle.drive.proofs.StageProved.{stage-right}
+use Rattle.firmware.proofs.BorderProved.{border-right}
 use Rattle.line.proofs.LinesProved.{lines-in-numbers}
 use Rattle.promises.specs.Promises.{Promises}
 
@@ -20,6 +22,8 @@ promises =
       demand-2 = demand-2;
       demand-3 = demand-3;
       wheel-speeds = stage-right;
+      flat-messages = fields-right;
+      flags-as-numbers = border-right;
       data-needed = remaining-needed;
       one-byte = every-push;
       together = taken-at-once;

@@ -8,11 +8,13 @@ use Rattle.wire.specs.Sixteen.{RoundTrip16}
 use Rattle.wire.specs.Replies.{RepliesTell}
 use Rattle.frame.specs.Absorb.{TakenAtOnce}
 use Rattle.frame.specs.Cut.{EveryPush, RemainingNeeded}
+use Rattle.command.specs.Fields.{FieldsRight}
 use Rattle.state.specs.Record.{RecordsInNumbers, AcceptedStays}
 use Rattle.board.specs.Demand1.{Demand1}
 use Rattle.board.specs.Demand2.{Demand2}
 use Rattle.board.specs.Demand3.{Demand3}
 use Rattle.drive.specs.Stage.{StageRight}
+use Rattle.firmware.specs.Border.{BorderRight}
 use Rattle.line.specs.Cases.{LinesInNumbers}
 
 pub record Promises : Type 0 where
@@ -37,6 +39,13 @@ pub record Promises : Type 0 where
   -- on, on the spot and wheel by wheel are as ordered; where the motors are off, the wheels stand;
   -- an order that is not legal is refused.
   pub wheel-speeds : StageRight
+  -- ---- beside them: programs in C and Rust
+
+  -- A host in C can say every command that can be written, in plain numbers, and of no other number
+  -- in an opcode's place is anything written.
+  pub flat-messages : FieldsRight
+  -- Yes and no cross as numbers: handed in, 0 is no and any other number yes; handed out, 0 and 1.
+  pub flags-as-numbers : BorderRight
   -- ---- what the demands rest on, below the board
 
   -- Once a command's length is known, the data bytes still to come are all needed, whatever they
