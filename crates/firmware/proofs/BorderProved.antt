@@ -1,14 +1,14 @@
 -- The theorem of specs/Border.antt.
 -- Assumes nothing.
-use mathlib.Core.Path.{_≡_, refl}
-use mathlib.Core.Bool.{Bool, true, false}
+use mathlib.Core.Path.{_≡_, refl, ap}
+use mathlib.Core.Bool.{Bool, true, false, not}
 use Prim.Native.Nat.{ℕ, _<_}
 use native.Mathlib.Omega.{arith}
 use borrow.Author.Tests.{ne-eqb}
 use Rattle.firmware.specs.Border.{isSet, flagOf, toldAs, BorderRight}
 
 set : (flag : ℕ) → 0 < flag → isSet flag ≡ true
-set flag h = simp (ne-eqb flag 0 (λ (e : flag ≡ 0). omega arith))
+set flag h = ap not (ne-eqb flag 0 (λ (e : flag ≡ 0). omega arith))
 
 out-in : (b : Bool) → isSet (flagOf b) ≡ b
 out-in true = refl
