@@ -14,7 +14,8 @@
  * - None may be null, and a record or message is aligned as its type is (8 and 2 bytes). The
  *   library cannot tell a wrong pointer from a right one: that is the caller's part.
  * - A buffer or bytes of length 0 may be lent, with a pointer that is not null all the same.
- * - What is lent to one call must not overlap, save that board_same may get one record twice.
+ * - What a call writes, the record and the buffer, overlaps nothing else that is lent to it. What
+ *   it only reads may overlap: board_same may get one record twice.
  * - A lent buffer is written only in its first `length` bytes, and only with number 0.
  *
  * Any bytes that are lent as a record are a record, good or bad, and so with a message: there is no
