@@ -238,7 +238,8 @@ RawdhusaqReply board_tick(RawdhusaqState *state, const uint8_t image[40], uint8_
 /* The song that plays has ended. Gives 0, or 8. */
 uint8_t board_song_end(RawdhusaqState *state);
 
-/* Whether a record is one that the board takes: 1 yes; 0 no, and then every call answers 8. */
+/* Whether a record is one that the board takes: 1 yes; 0 no, and then a byte, a run, a report, a
+ * tick and a song end all answer 8. */
 uint8_t board_accepts(const RawdhusaqState *state);
 
 /* Whether two records are the same in every field: 1 yes, 0 no. */

@@ -111,7 +111,8 @@ impl State {
         unsafe { raw::board_song_end(self) }
     }
 
-    /// Whether the board takes this record; where not, every call answers 8.
+    /// Whether the board takes this record; where not, a byte, a run, a report, a tick and a
+    /// song end all answer 8.
     #[must_use]
     pub fn accepts(&self) -> bool {
         // SAFETY: the record is read alone.

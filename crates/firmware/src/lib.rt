@@ -131,7 +131,7 @@ pub extern "C" fn board_song_end(state: &mut State) -> u8
     a.number
 }
 
-// Whether the board takes a record: 1 yes; 0 no, and then each call answers 8.
+// Whether the board takes a record: 1 yes; 0 no, and then the calls above answer 8.
 #[no_mangle]
 pub extern "C" fn board_accepts(state: &State) -> u8
     ensures { λ r. ⌜ r ≡ flagOf (acceptedOf (now (state .entry))) ⌝ }
