@@ -1,5 +1,6 @@
--- `firmware::board_accepts` meets its contract: a walk of its MIR, written by tools/lend.py and not by hand. `state` is lent: the value is copied out and passed to `accepted`, and what that returned is stored.
--- All that the proof knows of `accepted` is that it meets its contract. Assumes nothing.
+-- `firmware::board_accepts` meets its contract. A walk of its MIR, written by tools/lend.py.
+-- Lent: `state`. Of the step `accepted`, which it hands on to, the proof knows the contract alone.
+-- Assumes nothing.
 use mathlib.Core.Path.{_≡_, refl}
 use Prim.Native.Nat.{ℕ}
 use mathlib.Core.List.{[], _∷_, List}
@@ -114,19 +115,19 @@ module _ {M : Type 1} (𝓤 : URA M) (H : Heap 𝓤) (A : Atoms 𝓤) (W : Given
         alloc1 ! (λ l₀. alloc1 ! (λ l₁. alloc1 ! (λ l₂. alloc0 ! $ params1 ! $
         pass1 ! (init ! 2 refl (tt, tt)) $ pass0 ! $
         move ! (7 ∷ 9 ∷ []) $ sees State-t.the-type State-l.the-laws State-l.the-copy ! tt the-state b₀ o₀ (λ t₀ g₀.
-        -- [state's cell; state's open borrow; bor₀; _2; _1; _0; obs₀; owns; Toks]
+        -- [state's cell; state's loan; bor₀; _2 .. _0; obs₀; owns; Toks]
         assigns ! (of-opd ! (load ! (from ! (hop ! (look ! 5 refl) (stop !))) (look-raw ! 0 refl))) (from ! (stop !)) (init ! 3 refl (LL.lawful State-t.the-type State-l.the-laws 𝓤 H A W .typed the-state _ g₀ .0)) $
         move ! (11 ∷ []) $ use1 W (raw (Callee 𝓤 H A at-mem run .pre to)) (goes-to g₀) $
-        -- [pre; state's cell; state's open borrow; bor₀; _2; _1; _0; obs₀; owns]
+        -- [pre; state's cell; state's loan; bor₀; _2 .. _0; obs₀; owns]
         calls-at ! fm (Callee 𝓤 H A at-mem run) known to (and-then ! (load ! (from ! (stop !)) (look ! 4 refl)) (no-more !)) (λ v.
         use1 W (later (some (λ (r : ℕ). (Toks ⊛ ‵ (u8 .own r (v ∷ []))) ⊛ raw (ensured 𝓤 H A g.ended (g.clauses 𝓤 H A at-mem run) tt args tt r)))) (id⊢ 𝓤 _) $ await ! tt $ pick ! (λ r.
         split ! $ move ! (1 ∷ []) $ use1 W (some (λ (ws : Lasts g.ended tt args). ‵ (lasts g.ended tt args ws) ⊛ raw (fact 𝓤 (Said r)))) (id⊢ 𝓤 _) $ pick ! (λ ws.
         split ! $ move ! (1 ∷ []) $ heard ! (Said r) (λ e.
         drop ! $ split ! $ move ! (1 ∷ []) $ facts ! u8 (Is u8) (shows 𝓤 H A u8) r (v ∷ []) (λ is.
-        -- [Toks; state's cell; state's open borrow; bor₀; _2; _1; _0; obs₀; owns]
+        -- [Toks; state's cell; state's loan; bor₀; _2 .. _0; obs₀; owns]
         land ! (from ! (stop !)) (init ! 8 refl (uint-lawful 𝓤 H A W w8 .typed r _ is .0)) $
         move ! (1 ∷ 2 ∷ []) $ unseen State-t.the-type State-l.the-laws State-l.the-plain ! tt t₀ the-state b₀ o₀ g₀ $
-        -- [tok₀; Toks; bor₀; _2; _1; _0; obs₀; owns]
+        -- [tok₀; Toks; bor₀; _2 .. _0; obs₀; owns]
         returns ! (look ! 7 refl) $ forget ! 3 refl $ forget ! 5 refl $ forget ! 7 refl $
         move ! (7 ∷ 8 ∷ []) $ free1 ! $ move ! (5 ∷ 6 ∷ []) $ free1 ! $ move ! (3 ∷ 4 ∷ []) $ free1 ! $ free0 ! $
         keep ! (3 ∷ 2 ∷ 0 ∷ 1 ∷ []) $ by ! (exits r v is e))))))))))

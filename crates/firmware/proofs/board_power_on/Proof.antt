@@ -1,5 +1,6 @@
--- `firmware::board_power_on` meets its contract: a walk of its MIR, written by tools/lend.py and not by hand. `state` is lent: the value is copied out and passed to `power_on`, and what that returned is stored.
--- All that the proof knows of `power_on` is that it meets its contract. Assumes nothing.
+-- `firmware::board_power_on` meets its contract. A walk of its MIR, written by tools/lend.py.
+-- Lent: `state`. Of the step `power_on`, which it hands on to, the proof knows the contract alone.
+-- Assumes nothing.
 use mathlib.Core.Path.{_≡_, refl}
 use Prim.Native.Nat.{ℕ}
 use mathlib.Core.List.{[], _∷_, List}
@@ -111,20 +112,20 @@ module _ {M : Type 1} (𝓤 : URA M) (H : Heap 𝓤) (A : Atoms 𝓤) (W : Given
         alloc1 ! (λ l₀. alloc1 ! (λ l₁. alloc1 ! (λ l₂. alloc0 ! $ params1 ! $
         pass1 ! (init ! 2 refl (tt, tt)) $ pass0 ! $
         move ! (6 ∷ 7 ∷ 9 ∷ []) $ lends State-t.the-type State-l.the-laws ! tt the-state b₀ o₀ (λ g₀.
-        -- [state's cell; state's open borrow; obs₀; auth₀; _2; _1; _0; owns; Toks]
+        -- [state's cell; state's loan; obs₀; auth₀; _2 .. _0; owns; Toks]
         move ! (11 ∷ []) $ use1 W (raw (Callee 𝓤 H A at-mem run .pre to)) (goes-to g₀) $
-        -- [pre; state's cell; state's open borrow; obs₀; auth₀; _2; _1; _0; owns]
+        -- [pre; state's cell; state's loan; obs₀; auth₀; _2 .. _0; owns]
         calls-at ! fm (Callee 𝓤 H A at-mem run) known to (no-more !) (λ v.
         use1 W (later (some (λ (r : State). (Toks ⊛ ‵ (State-t.the-row .own r (v ∷ []))) ⊛ raw (ensured 𝓤 H A g.ended (g.clauses 𝓤 H A at-mem run) tt args tt r)))) (id⊢ 𝓤 _) $ await ! tt $ pick ! (λ r.
         split ! $ move ! (1 ∷ []) $ use1 W (some (λ (ws : Lasts g.ended tt args). ‵ (lasts g.ended tt args ws) ⊛ raw (fact 𝓤 (Said r)))) (id⊢ 𝓤 _) $ pick ! (λ ws.
         split ! $ move ! (1 ∷ []) $ heard ! (Said r) (λ e.
         drop ! $ split ! $ move ! (1 ∷ []) $ facts ! State-t.the-row (Is State-t.the-row) (shows 𝓤 H A State-t.the-row) r (v ∷ []) (λ is.
-        -- [Toks; state's cell; state's open borrow; obs₀; auth₀; _2; _1; _0; owns]
+        -- [Toks; state's cell; state's loan; obs₀; auth₀; _2 .. _0; owns]
         land ! (from ! (stop !)) (init ! 5 refl (LL.lawful State-t.the-type State-l.the-laws 𝓤 H A W .typed r _ is .0)) $
         assigns ! (of-opd ! (load ! (from ! (stop !)) (look ! 5 refl))) (from ! (hop ! (look ! 7 refl) (stop !))) (store-raw ! 1 refl (LL.lawful State-t.the-type State-l.the-laws 𝓤 H A W .typed r _ is .0)) $
         assigns ! (of-opd ! (unit-lit !)) (from ! (stop !)) (init ! 9 refl (tt, tt)) $
         move ! (1 ∷ 2 ∷ 3 ∷ 4 ∷ []) $ stored State-t.the-type State-l.the-plain ! tt r v b₀ o₀ is $
-        -- [obs₀; bor₀; tok₀; Toks; _2; _1; _0; owns]
+        -- [obs₀; bor₀; tok₀; Toks; _2 .. _0; owns]
         returns ! (look ! 8 refl) $ forget ! 4 refl $ forget ! 6 refl $ forget ! 8 refl $
         move ! (8 ∷ 9 ∷ []) $ free1 ! $ move ! (6 ∷ 7 ∷ []) $ free1 ! $ move ! (4 ∷ 5 ∷ []) $ free1 ! $ free0 ! $
         keep ! (0 ∷ 1 ∷ 2 ∷ 3 ∷ []) $ by ! (exits r v is e))))))))))

@@ -1,5 +1,6 @@
--- `firmware::board_run` meets its contract: a walk of its MIR, written by tools/lend.py and not by hand. `state` is lent: the value is copied out and passed to `run`, and what that returned is stored.
--- All that the proof knows of `run` is that it meets its contract. Assumes nothing.
+-- `firmware::board_run` meets its contract. A walk of its MIR, written by tools/lend.py.
+-- Lent: `state`. Of the step `run`, which it hands on to, the proof knows the contract alone.
+-- Assumes nothing.
 use mathlib.Core.Path.{_≡_, refl, ap}
 use Prim.Native.Nat.{ℕ}
 use mathlib.Core.List.{[], _∷_, List}
@@ -39,7 +40,6 @@ use denote.Triple.Table.{entered, cited}
 use denote.Triple.Walked.{says, Stays, stay-ref, stay-none-ref, stay-none-slice, gave-slice, walkOf, AllGo, goes-ref, goes-none-ref, goes-none-slice, goes-gave-slice, Walks, ends-at, walked, walk-meets}
 use denote.Exit.{yes}
 use denote.Struct.Laws as LL
-use mathlib.Core.List.{[]}
 use Rattle.board.specs.Outcome.{written}
 use Rattle.board.specs.Calls.{runOf, ranAs}
 use Rattle.state.specs.declared.State.{State}
@@ -168,26 +168,26 @@ module _ {M : Type 1} (𝓤 : URA M) (H : Heap 𝓤) (A : Atoms 𝓤) (W : Given
           alloc1 ! (λ l₀. alloc1 ! (λ l₁. alloc1 ! (λ l₂. alloc1 ! (λ l₃. alloc1 ! (λ l₄. alloc1 ! (λ l₅. alloc1 ! (λ l₆. alloc1 ! (λ l₇. alloc1 ! (λ l₈. alloc0 ! $ params1 ! $
           pass1 ! (init ! 14 refl (tt, tt)) $ pass1 ! (init ! 12 refl (shr-slice-lawful 𝓤 H A W (named 1) κ₁ u8 .typed x₁ (sliceVal (b₁, o₁) (length the-bytes) ∷ []) the-bytes-is .0)) $ pass1 ! (init ! 10 refl (tt, tt)) $ pass1 ! (init ! 8 refl (mut-slice-lawful 𝓤 H A W (named 3) κ₃ u8 .typed x₃ (sliceVal (b₃, o₃) (length the-buffer) ∷ []) the-buffer-is .0)) $ pass0 ! $
           move ! (22 ∷ 23 ∷ 24 ∷ []) $ lends State-t.the-type State-l.the-laws ! tt the-state b₀ o₀ (λ g₀.
-          -- [state's cell; state's open borrow; obs₀; auth₀; _8; _7; _6; _5; _4; _3; _2; _1; _0; mut₃; owns; shr₂; shr₁; Toks]
+          -- [state's cell; state's loan; obs₀; auth₀; _8 .. _0; mut₃; owns; shr₂; shr₁; Toks]
           assigns ! (of-opd ! (load ! (from ! (hop ! (look ! 18 refl) (stop !))) (look-raw ! 0 refl))) (from ! (stop !)) (init ! 8 refl (LL.lawful State-t.the-type State-l.the-laws 𝓤 H A W .typed the-state _ g₀ .0)) $
           assigns ! (addr ! (from ! (fld ! refl (hop ! (look-in ! 12 (sub ! 0 refl (whole !))) (stop !))))) (from ! (stop !)) (init ! 6 refl (tt, tt)) $
           assigns ! (agg ! (and-then ! (load ! (from ! (stop !)) (look ! 6 refl)) (and-then ! (load ! (from ! (fld ! refl (stop !))) (look-in ! 12 (sub ! 1 refl (whole !)))) (no-more !)))) (from ! (stop !)) (init ! 4 refl (tt, (tt, (record { fits = the-buffer-is .0 .1 .0 }, tt)))) $
           move ! (22 ∷ []) $ move ! (24 ∷ 0 ∷ []) $ join ! $ move ! (24 ∷ 0 ∷ []) $ join ! $ move ! (24 ∷ 0 ∷ []) $ join ! $ use1 W (raw (Callee 𝓤 H A at-mem run .pre to) ⊛ ‵ Own₁ ⊛ ‵ Own₂) (goes-to g₀) $ split ! $ move ! (1 ∷ []) $ split ! $ move ! (2 ∷ []) $
-          -- [pre; shr₁; shr₂; state's cell; state's open borrow; obs₀; auth₀; _8; _7; _6; _5; _4; _3; _2; _1; _0; owns]
+          -- [pre; shr₁; shr₂; state's cell; state's loan; obs₀; auth₀; _8 .. _0; owns]
           calls-at ! fm (Callee 𝓤 H A at-mem run) known to (and-then ! (load ! (from ! (stop !)) (look ! 11 refl)) (and-then ! (load ! (from ! (stop !)) (look ! 19 refl)) (and-then ! (load ! (from ! (stop !)) (look ! 17 refl)) (and-then ! (load ! (from ! (stop !)) (look ! 7 refl)) (no-more !))))) (λ v.
           use1 W (later (some (λ (r : Ran). (Toks ⊛ ‵ (Ran-t.the-row .own r (v ∷ []))) ⊛ raw (ensured 𝓤 H A g.ended (g.clauses 𝓤 H A at-mem run) (κ₁, (κ₂, (κ₃, tt))) args tt r)))) (id⊢ 𝓤 _) $ await ! tt $ pick ! (λ r.
           split ! $ move ! (1 ∷ []) $ use1 W (some (λ (ws : Lasts g.ended (κ₁, (κ₂, (κ₃, tt))) args). ‵ (lasts g.ended (κ₁, (κ₂, (κ₃, tt))) args ws) ⊛ raw (fact 𝓤 (Said r (ws .1 .1 .1 .0))))) (id⊢ 𝓤 _) $ pick ! (λ ws.
           split ! $ move ! (1 ∷ []) $ heard ! (Said r (ws .1 .1 .1 .0)) (λ e.
           fsplit ! $ drop ! $ fsplit ! $ drop ! $ fsplit ! $ drop ! $ fsplit ! $ fsplit ! $ move ! (1 ∷ []) $ feqL ! (λ len₃.
           move ! (1 ∷ []) $ drop ! $ move ! (1 ∷ []) $ split ! $ move ! (1 ∷ []) $ facts ! Ran-t.the-row (Is Ran-t.the-row) (shows 𝓤 H A Ran-t.the-row) r (v ∷ []) (λ is.
-          -- [Toks; fin₃; shr₁; shr₂; state's cell; state's open borrow; obs₀; auth₀; _8; _7; _6; _5; _4; _3; _2; _1; _0; owns]
+          -- [Toks; fin₃; shr₁; shr₂; state's cell; state's loan; obs₀; auth₀; _8 .. _0; owns]
           land ! (from ! (stop !)) (init ! 14 refl (LL.lawful Ran-t.the-type Ran-l.the-laws 𝓤 H A W .typed r _ is .0)) $
           -- the machine value returned is written out, so that its parts can be read
           rewrite ! 14 (λ (u : Val). ‵ (fat fullShare Ran-l.mir l₅ 0 u)) (spells Ran-t.the-type Ran-l.the-laws r v is) refl $
           assigns ! (of-opd ! (load ! (from ! (fld ! refl (stop !))) (look-in ! 14 (sub ! 2 refl (whole !))))) (from ! (hop ! (look ! 22 refl) (stop !))) (store-raw ! 4 refl (LL.lawful State-t.the-type State-l.the-laws 𝓤 H A W .typed (r .state) _ (part-state r v is) .0)) $
           assigns ! (agg ! (and-then ! (load ! (from ! (fld ! refl (stop !))) (look-in ! 14 (sub ! 0 refl (whole !)))) (and-then ! (load ! (from ! (fld ! refl (stop !))) (look-in ! 14 (sub ! 1 refl (whole !)))) (and-then ! (load ! (from ! (fld ! refl (stop !))) (look-in ! 14 (sub ! 3 refl (whole !)))) (no-more !))))) (from ! (stop !)) (init ! 24 refl (LL.lawful RunReply-t.the-type RunReply-l.the-laws 𝓤 H A W .typed (reply r) _ (reply-is r v is) .0)) $
           move ! (4 ∷ 5 ∷ 6 ∷ 7 ∷ []) $ stored State-t.the-type State-l.the-plain ! tt (r .state) (LL.val State-t.the-type State-l.the-laws (r .state)) b₀ o₀ (part-state r v is) $
-          -- [obs₀; bor₀; tok₀; Toks; fin₃; shr₁; shr₂; _8; _7; _6; _5; _4; _3; _2; _1; _0; owns]
+          -- [obs₀; bor₀; tok₀; Toks; fin₃; shr₁; shr₂; _8 .. _0; owns]
           returns ! (look ! 23 refl) $ forget ! 7 refl $ forget ! 9 refl $ forget ! 11 refl $ forget ! 13 refl $ forget ! 15 refl $ forget ! 17 refl $ forget ! 19 refl $ forget ! 21 refl $ forget ! 23 refl $
           move ! (23 ∷ 24 ∷ []) $ free1 ! $ move ! (21 ∷ 22 ∷ []) $ free1 ! $ move ! (19 ∷ 20 ∷ []) $ free1 ! $ move ! (17 ∷ 18 ∷ []) $ free1 ! $ move ! (15 ∷ 16 ∷ []) $ free1 ! $ move ! (13 ∷ 14 ∷ []) $ free1 ! $ move ! (11 ∷ 12 ∷ []) $ free1 ! $ move ! (9 ∷ 10 ∷ []) $ free1 ! $ move ! (7 ∷ 8 ∷ []) $ free1 ! $ free0 ! $
           keep ! (0 ∷ 1 ∷ 2 ∷ 3 ∷ 4 ∷ 5 ∷ 6 ∷ []) $ by ! (exits r v is (ws .1 .1 .1 .0) e len₃)))))))))))))))))

@@ -1,5 +1,6 @@
--- `firmware::board_safety_report` meets its contract: a walk of its MIR, written by tools/lend.py and not by hand. `state` is lent: the value is copied out and passed to `report`, and what that returned is stored.
--- All that the proof knows of `report` is that it meets its contract. Assumes nothing.
+-- `firmware::board_safety_report` meets its contract. A walk of its MIR, written by tools/lend.py.
+-- Lent: `state`. Of the step `report`, which it hands on to, the proof knows the contract alone.
+-- Assumes nothing.
 use mathlib.Core.Path.{_≡_, refl, ap}
 use Prim.Native.Nat.{ℕ}
 use mathlib.Core.List.{[], _∷_, List}
@@ -130,23 +131,23 @@ module _ {M : Type 1} (𝓤 : URA M) (H : Heap 𝓤) (A : Atoms 𝓤) (W : Given
           alloc1 ! (λ l₀. alloc1 ! (λ l₁. alloc1 ! (λ l₂. alloc1 ! (λ l₃. alloc1 ! (λ l₄. alloc1 ! (λ l₅. alloc1 ! (λ l₆. alloc0 ! $ params1 ! $
           pass1 ! (init ! 10 refl (tt, tt)) $ pass1 ! (init ! 8 refl (uint-lawful 𝓤 H A W w8 .typed the-drop _ the-drop-is .0)) $ pass1 ! (init ! 6 refl (uint-lawful 𝓤 H A W w8 .typed the-cliff _ the-cliff-is .0)) $ pass1 ! (init ! 4 refl (uint-lawful 𝓤 H A W w8 .typed the-charger _ the-charger-is .0)) $ pass0 ! $
           move ! (15 ∷ 16 ∷ 17 ∷ []) $ lends State-t.the-type State-l.the-laws ! tt the-state b₀ o₀ (λ g₀.
-          -- [state's cell; state's open borrow; obs₀; auth₀; _6; _5; _4; _3; _2; _1; _0; owns; Toks]
+          -- [state's cell; state's loan; obs₀; auth₀; _6 .. _0; owns; Toks]
           assigns ! (of-opd ! (load ! (from ! (hop ! (look ! 14 refl) (stop !))) (look-raw ! 0 refl))) (from ! (stop !)) (init ! 4 refl (LL.lawful State-t.the-type State-l.the-laws 𝓤 H A W .typed the-state _ g₀ .0)) $
           move ! (19 ∷ []) $ use1 W (raw (Callee 𝓤 H A at-mem run .pre to)) (goes-to g₀) $
-          -- [pre; state's cell; state's open borrow; obs₀; auth₀; _6; _5; _4; _3; _2; _1; _0; owns]
+          -- [pre; state's cell; state's loan; obs₀; auth₀; _6 .. _0; owns]
           calls-at ! fm (Callee 𝓤 H A at-mem run) known to (and-then ! (load ! (from ! (stop !)) (look ! 5 refl)) (and-then ! (load ! (from ! (stop !)) (look ! 13 refl)) (and-then ! (load ! (from ! (stop !)) (look ! 11 refl)) (and-then ! (load ! (from ! (stop !)) (look ! 9 refl)) (no-more !))))) (λ v.
           use1 W (later (some (λ (r : Answer). (Toks ⊛ ‵ (Answer-t.the-row .own r (v ∷ []))) ⊛ raw (ensured 𝓤 H A g.ended (g.clauses 𝓤 H A at-mem run) tt args tt r)))) (id⊢ 𝓤 _) $ await ! tt $ pick ! (λ r.
           split ! $ move ! (1 ∷ []) $ use1 W (some (λ (ws : Lasts g.ended tt args). ‵ (lasts g.ended tt args ws) ⊛ raw (fact 𝓤 (Said r)))) (id⊢ 𝓤 _) $ pick ! (λ ws.
           split ! $ move ! (1 ∷ []) $ heard ! (Said r) (λ e.
           drop ! $ split ! $ move ! (1 ∷ []) $ facts ! Answer-t.the-row (Is Answer-t.the-row) (shows 𝓤 H A Answer-t.the-row) r (v ∷ []) (λ is.
-          -- [Toks; state's cell; state's open borrow; obs₀; auth₀; _6; _5; _4; _3; _2; _1; _0; owns]
+          -- [Toks; state's cell; state's loan; obs₀; auth₀; _6 .. _0; owns]
           land ! (from ! (stop !)) (init ! 7 refl (LL.lawful Answer-t.the-type Answer-l.the-laws 𝓤 H A W .typed r _ is .0)) $
           -- the machine value returned is written out, so that its parts can be read
           rewrite ! 7 (λ (u : Val). ‵ (fat fullShare Answer-l.mir l₅ 0 u)) (spells Answer-t.the-type Answer-l.the-laws r v is) refl $
           assigns ! (of-opd ! (load ! (from ! (fld ! refl (stop !))) (look-in ! 7 (sub ! 2 refl (whole !))))) (from ! (hop ! (look ! 15 refl) (stop !))) (store-raw ! 1 refl (LL.lawful State-t.the-type State-l.the-laws 𝓤 H A W .typed (r .state) _ (part-state r v is) .0)) $
           assigns ! (of-opd ! (load ! (from ! (fld ! refl (stop !))) (look-in ! 7 (sub ! 0 refl (whole !))))) (from ! (stop !)) (init ! 17 refl (uint-lawful 𝓤 H A W w8 .typed (r .number) _ (part-number r v is) .0)) $
           move ! (1 ∷ 2 ∷ 3 ∷ 4 ∷ []) $ stored State-t.the-type State-l.the-plain ! tt (r .state) (LL.val State-t.the-type State-l.the-laws (r .state)) b₀ o₀ (part-state r v is) $
-          -- [obs₀; bor₀; tok₀; Toks; _6; _5; _4; _3; _2; _1; _0; owns]
+          -- [obs₀; bor₀; tok₀; Toks; _6 .. _0; owns]
           returns ! (look ! 16 refl) $ forget ! 4 refl $ forget ! 6 refl $ forget ! 8 refl $ forget ! 10 refl $ forget ! 12 refl $ forget ! 14 refl $ forget ! 16 refl $
           move ! (16 ∷ 17 ∷ []) $ free1 ! $ move ! (14 ∷ 15 ∷ []) $ free1 ! $ move ! (12 ∷ 13 ∷ []) $ free1 ! $ move ! (10 ∷ 11 ∷ []) $ free1 ! $ move ! (8 ∷ 9 ∷ []) $ free1 ! $ move ! (6 ∷ 7 ∷ []) $ free1 ! $ move ! (4 ∷ 5 ∷ []) $ free1 ! $ free0 ! $
           keep ! (0 ∷ 1 ∷ 2 ∷ 3 ∷ []) $ by ! (exits r v is e))))))))))))))

@@ -1,5 +1,6 @@
--- `firmware::board_same` meets its contract: a walk of its MIR, written by tools/lend.py and not by hand. `a`, `b` are lent: the value is copied out and passed to `same`, and what that returned is stored.
--- All that the proof knows of `same` is that it meets its contract. Assumes nothing.
+-- `firmware::board_same` meets its contract. A walk of its MIR, written by tools/lend.py.
+-- Lent: `a`, `b`. Of the step `same`, which it hands on to, the proof knows the contract alone.
+-- Assumes nothing.
 use mathlib.Core.Path.{_≡_, refl}
 use Prim.Native.Nat.{ℕ}
 use mathlib.Core.List.{[], _∷_, List}
@@ -118,21 +119,21 @@ module _ {M : Type 1} (𝓤 : URA M) (H : Heap 𝓤) (A : Atoms 𝓤) (W : Given
         pass1 ! (init ! 6 refl (tt, tt)) $ pass1 ! (init ! 4 refl (tt, tt)) $ pass0 ! $
         move ! (14 ∷ 17 ∷ []) $ sees State-t.the-type State-l.the-laws State-l.the-copy ! tt the-a b₀ o₀ (λ t₀ g₀.
         move ! (14 ∷ 17 ∷ []) $ sees State-t.the-type State-l.the-laws State-l.the-copy ! tt the-b b₁ o₁ (λ t₁ g₁.
-        -- [b's cell; b's open borrow; bor₁; a's cell; a's open borrow; bor₀; _4; _3; _2; _1; _0; obs₁; owns; obs₀; Toks]
+        -- [b's cell; b's loan; bor₁; a's cell; a's loan; bor₀; _4 .. _0; obs₁; owns; obs₀; Toks]
         assigns ! (of-opd ! (load ! (from ! (hop ! (look ! 12 refl) (stop !))) (look-raw ! 3 refl))) (from ! (stop !)) (init ! 8 refl (LL.lawful State-t.the-type State-l.the-laws 𝓤 H A W .typed the-a _ g₀ .0)) $
         assigns ! (of-opd ! (load ! (from ! (hop ! (look ! 10 refl) (stop !))) (look-raw ! 0 refl))) (from ! (stop !)) (init ! 6 refl (LL.lawful State-t.the-type State-l.the-laws 𝓤 H A W .typed the-b _ g₁ .0)) $
         move ! (19 ∷ []) $ use1 W (raw (Callee 𝓤 H A at-mem run .pre to)) (goes-to g₀ g₁) $
-        -- [pre; b's cell; b's open borrow; bor₁; a's cell; a's open borrow; bor₀; _4; _3; _2; _1; _0; obs₁; owns; obs₀]
+        -- [pre; b's cell; b's loan; bor₁; a's cell; a's loan; bor₀; _4 .. _0; obs₁; owns; obs₀]
         calls-at ! fm (Callee 𝓤 H A at-mem run) known to (and-then ! (load ! (from ! (stop !)) (look ! 9 refl)) (and-then ! (load ! (from ! (stop !)) (look ! 7 refl)) (no-more !))) (λ v.
         use1 W (later (some (λ (r : ℕ). (Toks ⊛ ‵ (u8 .own r (v ∷ []))) ⊛ raw (ensured 𝓤 H A g.ended (g.clauses 𝓤 H A at-mem run) tt args tt r)))) (id⊢ 𝓤 _) $ await ! tt $ pick ! (λ r.
         split ! $ move ! (1 ∷ []) $ use1 W (some (λ (ws : Lasts g.ended tt args). ‵ (lasts g.ended tt args ws) ⊛ raw (fact 𝓤 (Said r)))) (id⊢ 𝓤 _) $ pick ! (λ ws.
         split ! $ move ! (1 ∷ []) $ heard ! (Said r) (λ e.
         drop ! $ split ! $ move ! (1 ∷ []) $ facts ! u8 (Is u8) (shows 𝓤 H A u8) r (v ∷ []) (λ is.
-        -- [Toks; b's cell; b's open borrow; bor₁; a's cell; a's open borrow; bor₀; _4; _3; _2; _1; _0; obs₁; owns; obs₀]
+        -- [Toks; b's cell; b's loan; bor₁; a's cell; a's loan; bor₀; _4 .. _0; obs₁; owns; obs₀]
         land ! (from ! (stop !)) (init ! 15 refl (uint-lawful 𝓤 H A W w8 .typed r _ is .0)) $
         move ! (4 ∷ 5 ∷ []) $ unseen State-t.the-type State-l.the-laws State-l.the-plain ! tt t₀ the-a b₀ o₀ g₀ $
         move ! (2 ∷ 3 ∷ []) $ unseen State-t.the-type State-l.the-laws State-l.the-plain ! tt t₁ the-b b₁ o₁ g₁ $
-        -- [tok₁; tok₀; Toks; bor₁; bor₀; _4; _3; _2; _1; _0; obs₁; owns; obs₀]
+        -- [tok₁; tok₀; Toks; bor₁; bor₀; _4 .. _0; obs₁; owns; obs₀]
         returns ! (look ! 13 refl) $ forget ! 5 refl $ forget ! 7 refl $ forget ! 9 refl $ forget ! 11 refl $ forget ! 13 refl $
         move ! (13 ∷ 14 ∷ []) $ free1 ! $ move ! (11 ∷ 12 ∷ []) $ free1 ! $ move ! (9 ∷ 10 ∷ []) $ free1 ! $ move ! (7 ∷ 8 ∷ []) $ free1 ! $ move ! (5 ∷ 6 ∷ []) $ free1 ! $ free0 ! $
         keep ! (7 ∷ 4 ∷ 1 ∷ 5 ∷ 3 ∷ 0 ∷ 2 ∷ []) $ by ! (exits r v is e)))))))))))))

@@ -1,5 +1,6 @@
--- `firmware::board_song_end` meets its contract: a walk of its MIR, written by tools/lend.py and not by hand. `state` is lent: the value is copied out and passed to `song_end`, and what that returned is stored.
--- All that the proof knows of `song_end` is that it meets its contract. Assumes nothing.
+-- `firmware::board_song_end` meets its contract. A walk of its MIR, written by tools/lend.py.
+-- Lent: `state`. Of the step `song_end`, which it hands on to, the proof knows the contract alone.
+-- Assumes nothing.
 use mathlib.Core.Path.{_≡_, refl, ap}
 use Prim.Native.Nat.{ℕ}
 use mathlib.Core.List.{[], _∷_, List}
@@ -36,7 +37,6 @@ use denote.Triple.Spec.{Meets, tripleOf}
 use denote.Triple.Table.{entered, cited}
 use denote.Triple.Walked.{says, Stays, stay-ref, walkOf, AllGo, goes-ref, Walks, ends-at, walked, walk-meets}
 use denote.Struct.Laws as LL
-use mathlib.Core.List.{[]}
 use Rattle.board.specs.Outcome.{answered}
 use Rattle.board.specs.Calls.{songEndOf}
 use Rattle.state.specs.declared.State.{State}
@@ -128,23 +128,23 @@ module _ {M : Type 1} (𝓤 : URA M) (H : Heap 𝓤) (A : Atoms 𝓤) (W : Given
         alloc1 ! (λ l₀. alloc1 ! (λ l₁. alloc1 ! (λ l₂. alloc1 ! (λ l₃. alloc0 ! $ params1 ! $
         pass1 ! (init ! 4 refl (tt, tt)) $ pass0 ! $
         move ! (8 ∷ 9 ∷ 11 ∷ []) $ lends State-t.the-type State-l.the-laws ! tt the-state b₀ o₀ (λ g₀.
-        -- [state's cell; state's open borrow; obs₀; auth₀; _3; _2; _1; _0; owns; Toks]
+        -- [state's cell; state's loan; obs₀; auth₀; _3 .. _0; owns; Toks]
         assigns ! (of-opd ! (load ! (from ! (hop ! (look ! 8 refl) (stop !))) (look-raw ! 0 refl))) (from ! (stop !)) (init ! 4 refl (LL.lawful State-t.the-type State-l.the-laws 𝓤 H A W .typed the-state _ g₀ .0)) $
         move ! (13 ∷ []) $ use1 W (raw (Callee 𝓤 H A at-mem run .pre to)) (goes-to g₀) $
-        -- [pre; state's cell; state's open borrow; obs₀; auth₀; _3; _2; _1; _0; owns]
+        -- [pre; state's cell; state's loan; obs₀; auth₀; _3 .. _0; owns]
         calls-at ! fm (Callee 𝓤 H A at-mem run) known to (and-then ! (load ! (from ! (stop !)) (look ! 5 refl)) (no-more !)) (λ v.
         use1 W (later (some (λ (r : Answer). (Toks ⊛ ‵ (Answer-t.the-row .own r (v ∷ []))) ⊛ raw (ensured 𝓤 H A g.ended (g.clauses 𝓤 H A at-mem run) tt args tt r)))) (id⊢ 𝓤 _) $ await ! tt $ pick ! (λ r.
         split ! $ move ! (1 ∷ []) $ use1 W (some (λ (ws : Lasts g.ended tt args). ‵ (lasts g.ended tt args ws) ⊛ raw (fact 𝓤 (Said r)))) (id⊢ 𝓤 _) $ pick ! (λ ws.
         split ! $ move ! (1 ∷ []) $ heard ! (Said r) (λ e.
         drop ! $ split ! $ move ! (1 ∷ []) $ facts ! Answer-t.the-row (Is Answer-t.the-row) (shows 𝓤 H A Answer-t.the-row) r (v ∷ []) (λ is.
-        -- [Toks; state's cell; state's open borrow; obs₀; auth₀; _3; _2; _1; _0; owns]
+        -- [Toks; state's cell; state's loan; obs₀; auth₀; _3 .. _0; owns]
         land ! (from ! (stop !)) (init ! 7 refl (LL.lawful Answer-t.the-type Answer-l.the-laws 𝓤 H A W .typed r _ is .0)) $
         -- the machine value returned is written out, so that its parts can be read
         rewrite ! 7 (λ (u : Val). ‵ (fat fullShare Answer-l.mir l₂ 0 u)) (spells Answer-t.the-type Answer-l.the-laws r v is) refl $
         assigns ! (of-opd ! (load ! (from ! (fld ! refl (stop !))) (look-in ! 7 (sub ! 2 refl (whole !))))) (from ! (hop ! (look ! 9 refl) (stop !))) (store-raw ! 1 refl (LL.lawful State-t.the-type State-l.the-laws 𝓤 H A W .typed (r .state) _ (part-state r v is) .0)) $
         assigns ! (of-opd ! (load ! (from ! (fld ! refl (stop !))) (look-in ! 7 (sub ! 0 refl (whole !))))) (from ! (stop !)) (init ! 11 refl (uint-lawful 𝓤 H A W w8 .typed (r .number) _ (part-number r v is) .0)) $
         move ! (1 ∷ 2 ∷ 3 ∷ 4 ∷ []) $ stored State-t.the-type State-l.the-plain ! tt (r .state) (LL.val State-t.the-type State-l.the-laws (r .state)) b₀ o₀ (part-state r v is) $
-        -- [obs₀; bor₀; tok₀; Toks; _3; _2; _1; _0; owns]
+        -- [obs₀; bor₀; tok₀; Toks; _3 .. _0; owns]
         returns ! (look ! 10 refl) $ forget ! 4 refl $ forget ! 6 refl $ forget ! 8 refl $ forget ! 10 refl $
         move ! (10 ∷ 11 ∷ []) $ free1 ! $ move ! (8 ∷ 9 ∷ []) $ free1 ! $ move ! (6 ∷ 7 ∷ []) $ free1 ! $ move ! (4 ∷ 5 ∷ []) $ free1 ! $ free0 ! $
         keep ! (0 ∷ 1 ∷ 2 ∷ 3 ∷ []) $ by ! (exits r v is e)))))))))))

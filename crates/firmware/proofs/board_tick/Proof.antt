@@ -1,5 +1,6 @@
--- `firmware::board_tick` meets its contract: a walk of its MIR, written by tools/lend.py and not by hand. `state` is lent: the value is copied out and passed to `tick`, and what that returned is stored.
--- All that the proof knows of `tick` is that it meets its contract. Assumes nothing.
+-- `firmware::board_tick` meets its contract. A walk of its MIR, written by tools/lend.py.
+-- Lent: `state`. Of the step `tick`, which it hands on to, the proof knows the contract alone.
+-- Assumes nothing.
 use mathlib.Core.Path.{_≡_, refl, ap}
 use Prim.Native.Nat.{ℕ}
 use mathlib.Core.List.{[], _∷_, List}
@@ -39,7 +40,6 @@ use denote.Triple.Table.{entered, cited}
 use denote.Triple.Walked.{says, Stays, stay-ref, stay-none-ref, gave-slice, walkOf, AllGo, goes-ref, goes-none-ref, goes-gave-slice, Walks, ends-at, walked, walk-meets}
 use denote.Exit.{yes}
 use denote.Struct.Laws as LL
-use mathlib.Core.List.{[]}
 use Rattle.board.specs.Outcome.{answered, written}
 use Rattle.board.specs.Calls.{tickOf}
 use Rattle.state.specs.declared.State.{State}
@@ -159,26 +159,26 @@ module _ {M : Type 1} (𝓤 : URA M) (H : Heap 𝓤) (A : Atoms 𝓤) (W : Given
           alloc1 ! (λ l₀. alloc1 ! (λ l₁. alloc1 ! (λ l₂. alloc1 ! (λ l₃. alloc1 ! (λ l₄. alloc1 ! (λ l₅. alloc1 ! (λ l₆. alloc1 ! (λ l₇. alloc0 ! $ params1 ! $
           pass1 ! (init ! 12 refl (tt, tt)) $ pass1 ! (init ! 10 refl (tt, tt)) $ pass1 ! (init ! 8 refl (mut-slice-lawful 𝓤 H A W (named 2) κ₂ u8 .typed x₂ (sliceVal (b₂, o₂) (length the-buffer) ∷ []) the-buffer-is .0)) $ pass0 ! $
           move ! (19 ∷ 20 ∷ 21 ∷ []) $ lends State-t.the-type State-l.the-laws ! tt the-state b₀ o₀ (λ g₀.
-          -- [state's cell; state's open borrow; obs₀; auth₀; _7; _6; _5; _4; _3; _2; _1; _0; mut₂; owns; shr₁; Toks]
+          -- [state's cell; state's loan; obs₀; auth₀; _7 .. _0; mut₂; owns; shr₁; Toks]
           assigns ! (of-opd ! (load ! (from ! (hop ! (look ! 16 refl) (stop !))) (look-raw ! 0 refl))) (from ! (stop !)) (init ! 8 refl (LL.lawful State-t.the-type State-l.the-laws 𝓤 H A W .typed the-state _ g₀ .0)) $
           assigns ! (addr ! (from ! (fld ! refl (hop ! (look-in ! 12 (sub ! 0 refl (whole !))) (stop !))))) (from ! (stop !)) (init ! 6 refl (tt, tt)) $
           assigns ! (agg ! (and-then ! (load ! (from ! (stop !)) (look ! 6 refl)) (and-then ! (load ! (from ! (fld ! refl (stop !))) (look-in ! 12 (sub ! 1 refl (whole !)))) (no-more !)))) (from ! (stop !)) (init ! 4 refl (tt, (tt, (record { fits = the-buffer-is .0 .1 .0 }, tt)))) $
           move ! (20 ∷ []) $ move ! (22 ∷ 0 ∷ []) $ join ! $ move ! (22 ∷ 0 ∷ []) $ join ! $ use1 W (raw (Callee 𝓤 H A at-mem run .pre to) ⊛ ‵ Own₁) (goes-to g₀) $ split ! $
-          -- [pre; shr₁; state's cell; state's open borrow; obs₀; auth₀; _7; _6; _5; _4; _3; _2; _1; _0; owns]
+          -- [pre; shr₁; state's cell; state's loan; obs₀; auth₀; _7 .. _0; owns]
           calls-at ! fm (Callee 𝓤 H A at-mem run) known to (and-then ! (load ! (from ! (stop !)) (look ! 10 refl)) (and-then ! (load ! (from ! (stop !)) (look ! 16 refl)) (and-then ! (load ! (from ! (stop !)) (look ! 6 refl)) (no-more !)))) (λ v.
           use1 W (later (some (λ (r : Answer). (Toks ⊛ ‵ (Answer-t.the-row .own r (v ∷ []))) ⊛ raw (ensured 𝓤 H A g.ended (g.clauses 𝓤 H A at-mem run) (κ₁, (κ₂, tt)) args tt r)))) (id⊢ 𝓤 _) $ await ! tt $ pick ! (λ r.
           split ! $ move ! (1 ∷ []) $ use1 W (some (λ (ws : Lasts g.ended (κ₁, (κ₂, tt)) args). ‵ (lasts g.ended (κ₁, (κ₂, tt)) args ws) ⊛ raw (fact 𝓤 (Said r (ws .1 .1 .0))))) (id⊢ 𝓤 _) $ pick ! (λ ws.
           split ! $ move ! (1 ∷ []) $ heard ! (Said r (ws .1 .1 .0)) (λ e.
           fsplit ! $ drop ! $ fsplit ! $ drop ! $ fsplit ! $ fsplit ! $ move ! (1 ∷ []) $ feqL ! (λ len₂.
           move ! (1 ∷ []) $ drop ! $ move ! (1 ∷ []) $ split ! $ move ! (1 ∷ []) $ facts ! Answer-t.the-row (Is Answer-t.the-row) (shows 𝓤 H A Answer-t.the-row) r (v ∷ []) (λ is.
-          -- [Toks; fin₂; shr₁; state's cell; state's open borrow; obs₀; auth₀; _7; _6; _5; _4; _3; _2; _1; _0; owns]
+          -- [Toks; fin₂; shr₁; state's cell; state's loan; obs₀; auth₀; _7 .. _0; owns]
           land ! (from ! (stop !)) (init ! 13 refl (LL.lawful Answer-t.the-type Answer-l.the-laws 𝓤 H A W .typed r _ is .0)) $
           -- the machine value returned is written out, so that its parts can be read
           rewrite ! 13 (λ (u : Val). ‵ (fat fullShare Answer-l.mir l₄ 0 u)) (spells Answer-t.the-type Answer-l.the-laws r v is) refl $
           assigns ! (of-opd ! (load ! (from ! (fld ! refl (stop !))) (look-in ! 13 (sub ! 2 refl (whole !))))) (from ! (hop ! (look ! 19 refl) (stop !))) (store-raw ! 3 refl (LL.lawful State-t.the-type State-l.the-laws 𝓤 H A W .typed (r .state) _ (part-state r v is) .0)) $
           assigns ! (agg ! (and-then ! (load ! (from ! (fld ! refl (stop !))) (look-in ! 13 (sub ! 0 refl (whole !)))) (and-then ! (load ! (from ! (fld ! refl (stop !))) (look-in ! 13 (sub ! 1 refl (whole !)))) (no-more !)))) (from ! (stop !)) (init ! 21 refl (LL.lawful Reply-t.the-type Reply-l.the-laws 𝓤 H A W .typed (reply r) _ (reply-is r v is) .0)) $
           move ! (3 ∷ 4 ∷ 5 ∷ 6 ∷ []) $ stored State-t.the-type State-l.the-plain ! tt (r .state) (LL.val State-t.the-type State-l.the-laws (r .state)) b₀ o₀ (part-state r v is) $
-          -- [obs₀; bor₀; tok₀; Toks; fin₂; shr₁; _7; _6; _5; _4; _3; _2; _1; _0; owns]
+          -- [obs₀; bor₀; tok₀; Toks; fin₂; shr₁; _7 .. _0; owns]
           returns ! (look ! 20 refl) $ forget ! 6 refl $ forget ! 8 refl $ forget ! 10 refl $ forget ! 12 refl $ forget ! 14 refl $ forget ! 16 refl $ forget ! 18 refl $ forget ! 20 refl $
           move ! (20 ∷ 21 ∷ []) $ free1 ! $ move ! (18 ∷ 19 ∷ []) $ free1 ! $ move ! (16 ∷ 17 ∷ []) $ free1 ! $ move ! (14 ∷ 15 ∷ []) $ free1 ! $ move ! (12 ∷ 13 ∷ []) $ free1 ! $ move ! (10 ∷ 11 ∷ []) $ free1 ! $ move ! (8 ∷ 9 ∷ []) $ free1 ! $ move ! (6 ∷ 7 ∷ []) $ free1 ! $ free0 ! $
           keep ! (0 ∷ 1 ∷ 2 ∷ 3 ∷ 4 ∷ 5 ∷ []) $ by ! (exits r v is (ws .1 .1 .0) e len₂))))))))))))))))

@@ -1,5 +1,6 @@
--- `firmware::host_write` meets its contract: a walk of its MIR, written by tools/lend.py and not by hand. `message` is lent: the value is copied out and passed to `write`, and what that returned is stored.
--- All that the proof knows of `write` is that it meets its contract. Assumes nothing.
+-- `firmware::host_write` meets its contract. A walk of its MIR, written by tools/lend.py.
+-- Lent: `message`. Of the step `write`, which it hands on to, the proof knows the contract alone.
+-- Assumes nothing.
 use mathlib.Core.Path.{_≡_, refl, ap}
 use Prim.Native.Nat.{ℕ}
 use mathlib.Core.List.{[], _∷_, List}
@@ -148,25 +149,25 @@ module _ {M : Type 1} (𝓤 : URA M) (H : Heap 𝓤) (A : Atoms 𝓤) (W : Given
           alloc1 ! (λ l₀. alloc1 ! (λ l₁. alloc1 ! (λ l₂. alloc1 ! (λ l₃. alloc1 ! (λ l₄. alloc1 ! (λ l₅. alloc1 ! (λ l₆. alloc0 ! $ params1 ! $
           pass1 ! (init ! 10 refl (tt, tt)) $ pass1 ! (init ! 8 refl (mut-slice-lawful 𝓤 H A W (named 1) κ₁ u8 .typed x₁ (sliceVal (b₁, o₁) (length the-buffer) ∷ []) the-buffer-is .0)) $ pass0 ! $
           move ! (17 ∷ 18 ∷ []) $ sees Fields-t.the-type Fields-l.the-laws Fields-l.the-copy ! tt the-message b₀ o₀ (λ t₀ g₀.
-          -- [message's cell; message's open borrow; bor₀; _6; _5; _4; _3; _2; _1; _0; mut₁; owns; obs₀; Toks]
+          -- [message's cell; message's loan; bor₀; _6 .. _0; mut₁; owns; obs₀; Toks]
           assigns ! (of-opd ! (load ! (from ! (hop ! (look ! 13 refl) (stop !))) (look-raw ! 0 refl))) (from ! (stop !)) (init ! 7 refl (LL.lawful Fields-t.the-type Fields-l.the-laws 𝓤 H A W .typed the-message _ g₀ .0)) $
           assigns ! (addr ! (from ! (fld ! refl (hop ! (look-in ! 11 (sub ! 0 refl (whole !))) (stop !))))) (from ! (stop !)) (init ! 5 refl (tt, tt)) $
           assigns ! (agg ! (and-then ! (load ! (from ! (stop !)) (look ! 5 refl)) (and-then ! (load ! (from ! (fld ! refl (stop !))) (look-in ! 11 (sub ! 1 refl (whole !)))) (no-more !)))) (from ! (stop !)) (init ! 3 refl (tt, (tt, (record { fits = the-buffer-is .0 .1 .0 }, tt)))) $
           move ! (17 ∷ []) $ move ! (20 ∷ 0 ∷ []) $ join ! $ use1 W (raw (Callee 𝓤 H A at-mem run .pre to)) (goes-to g₀) $
-          -- [pre; message's cell; message's open borrow; bor₀; _6; _5; _4; _3; _2; _1; _0; owns; obs₀]
+          -- [pre; message's cell; message's loan; bor₀; _6 .. _0; owns; obs₀]
           calls-at ! fm (Callee 𝓤 H A at-mem run) known to (and-then ! (load ! (from ! (stop !)) (look ! 8 refl)) (and-then ! (load ! (from ! (stop !)) (look ! 4 refl)) (no-more !))) (λ v.
           use1 W (later (some (λ (r : Sent). (Toks ⊛ ‵ (Sent-t.the-row .own r (v ∷ []))) ⊛ raw (ensured 𝓤 H A g.ended (g.clauses 𝓤 H A at-mem run) (κ₁, tt) args tt r)))) (id⊢ 𝓤 _) $ await ! tt $ pick ! (λ r.
           split ! $ move ! (1 ∷ []) $ use1 W (some (λ (ws : Lasts g.ended (κ₁, tt) args). ‵ (lasts g.ended (κ₁, tt) args ws) ⊛ raw (fact 𝓤 (Said r (ws .1 .0))))) (id⊢ 𝓤 _) $ pick ! (λ ws.
           split ! $ move ! (1 ∷ []) $ heard ! (Said r (ws .1 .0)) (λ e.
           fsplit ! $ drop ! $ fsplit ! $ fsplit ! $ move ! (1 ∷ []) $ feqL ! (λ len₁.
           move ! (1 ∷ []) $ drop ! $ move ! (1 ∷ []) $ split ! $ move ! (1 ∷ []) $ facts ! Sent-t.the-row (Is Sent-t.the-row) (shows 𝓤 H A Sent-t.the-row) r (v ∷ []) (λ is.
-          -- [Toks; fin₁; message's cell; message's open borrow; bor₀; _6; _5; _4; _3; _2; _1; _0; owns; obs₀]
+          -- [Toks; fin₁; message's cell; message's loan; bor₀; _6 .. _0; owns; obs₀]
           land ! (from ! (stop !)) (init ! 11 refl (LL.lawful Sent-t.the-type Sent-l.the-laws 𝓤 H A W .typed r _ is .0)) $
           -- the machine value returned is written out, so that its parts can be read
           rewrite ! 11 (λ (u : Val). ‵ (fat fullShare Sent-l.mir l₃ 0 u)) (spells Sent-t.the-type Sent-l.the-laws r v is) refl $
           assigns ! (agg ! (and-then ! (load ! (from ! (fld ! refl (stop !))) (look-in ! 11 (sub ! 0 refl (whole !)))) (and-then ! (load ! (from ! (fld ! refl (stop !))) (look-in ! 11 (sub ! 1 refl (whole !)))) (no-more !)))) (from ! (stop !)) (init ! 17 refl (LL.lawful Reply-t.the-type Reply-l.the-laws 𝓤 H A W .typed (reply r) _ (reply-is r v is) .0)) $
           move ! (2 ∷ 3 ∷ []) $ unseen Fields-t.the-type Fields-l.the-laws Fields-l.the-plain ! tt t₀ the-message b₀ o₀ g₀ $
-          -- [tok₀; Toks; fin₁; bor₀; _6; _5; _4; _3; _2; _1; _0; owns; obs₀]
+          -- [tok₀; Toks; fin₁; bor₀; _6 .. _0; owns; obs₀]
           returns ! (look ! 16 refl) $ forget ! 4 refl $ forget ! 6 refl $ forget ! 8 refl $ forget ! 10 refl $ forget ! 12 refl $ forget ! 14 refl $ forget ! 16 refl $
           move ! (16 ∷ 17 ∷ []) $ free1 ! $ move ! (14 ∷ 15 ∷ []) $ free1 ! $ move ! (12 ∷ 13 ∷ []) $ free1 ! $ move ! (10 ∷ 11 ∷ []) $ free1 ! $ move ! (8 ∷ 9 ∷ []) $ free1 ! $ move ! (6 ∷ 7 ∷ []) $ free1 ! $ move ! (4 ∷ 5 ∷ []) $ free1 ! $ free0 ! $
           keep ! (5 ∷ 3 ∷ 0 ∷ 1 ∷ 2 ∷ []) $ by ! (exits r v is (ws .1 .0) e len₁)))))))))))))))
