@@ -1,0 +1,25 @@
+/* The rules a second time, in C, written from the project's papers and from nothing of the library:
+ * the tests hold the library against them. */
+#ifndef Papers_h
+#define Papers_h
+
+#include "rawdhusaq.h"
+
+#include <stdbool.h>
+
+/* Whether a record is one that the board takes. */
+bool papers_accept(const RawdhusaqState *state);
+
+/* What a safety report leaves of an accepted record. */
+void papers_report(RawdhusaqState *state, bool drop, bool cliff, bool charger);
+
+/* The frame of a message: its length, or 0 where the writer refuses it with 4. */
+size_t papers_frame(const RawdhusaqMessage *message, uint8_t frame[RawdhusaqLongestFrame]);
+
+/* The speed of each wheel. */
+RawdhusaqWheelSpeeds papers_speeds(uint8_t kind, int16_t first, int16_t second);
+
+/* Bytes of a packet's answer, of any id of 0 to 42. */
+unsigned papers_size(uint8_t id);
+
+#endif
