@@ -3,11 +3,11 @@
 
   bindings/layout.py FOLDER
 
-Compared are, of each #[repr(C)] struct of the crates that are lent to C: its fields, in their order,
-with names and types; its size and alignment, as the toolchain gives them for the struct as it
-stands in the source; and each field's offset. Of each exported function: its parameters and its
-result. The header's numbers are those of its assertions, which the C compiler holds against its own
-layout. FOLDER is for files that may be thrown away."""
+Compared are, of each #[repr(C)] struct of the crates that C sees: its fields, in their order, with
+names and types; its size and alignment, as the toolchain proves them of the struct as it stands in
+the source; and each field's offset, by the rule that repr(C) names. Of each exported function: its
+parameters and its result. The header's numbers are those of its assertions, which the C compiler
+holds against its own layout. FOLDER is for files that may be thrown away."""
 
 import os
 import re

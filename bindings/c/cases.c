@@ -14,7 +14,8 @@ static uint8_t buffer[RawdhusaqLongestAnswer];
 /* ---- Helpers. */
 
 /* Feeds all bytes by runs and gives back the last run's reply, with all that were read. */
-static RawdhusaqRunReply feed(RawdhusaqState *state, const uint8_t *bytes, size_t count, size_t room)
+static RawdhusaqRunReply feed(RawdhusaqState *state, const uint8_t *bytes, size_t count,
+    size_t room)
 {
     RawdhusaqRunReply reply = {.number = RawdhusaqWaiting};
     size_t at = 0;
@@ -301,7 +302,8 @@ static void fields_read_back(void)
     Check(send(&state, Bytes(139, 11, 12, 13)) == 0 && send(&state, Bytes(147, 5)) == 0);
     Check(send(&state, Bytes(151, 99)) == 0 && send(&state, Bytes(144, 1, 2, 3)) == 0);
     Check(send(&state, Bytes(145, 0, 21, 255, 234)) == 0);
-    Check(send(&state, Bytes(140, 15, 2, 31, 32, 33, 34)) == 0 && send(&state, Bytes(141, 15)) == 0);
+    Check(send(&state, Bytes(140, 15, 2, 31, 32, 33, 34)) == 0);
+    Check(send(&state, Bytes(141, 15)) == 0);
     Check(send(&state, Bytes(148, 3, 7, 42, 8)) == 0 && send(&state, Bytes(140, 6, 4, 77)) == 9);
     Check(state.mode == Full && order_is(&state, RawdhusaqDirect, 21, -22));
     Check(memcmp(state.motors.duties, (const uint8_t[]){3, 2, 1}, 3) == 0);

@@ -59,11 +59,35 @@ static void hand_to_motors(void)
     motors_set(speeds.right, speeds.left, motors->duties);
 }
 
+/* What is logged of a refusal. The host hears nothing of it: it asks for packets if it wants to
+ * know. All but the frame that was read past is as it was, so a robot that moves moves on. */
+static const char *refusal(uint8_t number)
+{
+    switch (number) {
+    case RawdhusaqUnknown: /* most likely a byte was lost, and data are read as opcodes */
+        return "refused: no such opcode";
+    case RawdhusaqNotOffered: /* a host that wants scripts or waits */
+        return "refused: not offered";
+    case RawdhusaqWrongMode: /* after a safety stop, say: the host has to enter Safe again */
+        return "refused: not in this mode";
+    case RawdhusaqNotLegal: /* a host that does not write its frames with host_write, or damage */
+        return "refused: data not legal";
+    case RawdhusaqNoSong: /* songs are gone after power-on */
+        return "refused: no such song";
+    case RawdhusaqBusy: /* until board_song_end is called */
+        return "refused: a song plays";
+    case RawdhusaqNoRoom: /* never with a buffer of 832 bytes; with a shorter one, lend more */
+        return "refused: answer too long for the buffer";
+    default:
+        return NULL;
+    }
+}
+
 /* What to do with each number that a call gives back. */
 static void settle(uint8_t number, size_t length)
 {
     last_number = number;
-    if (number != RawdhusaqBadRecord) {
+    if (number == RawdhusaqDone || number == RawdhusaqWaiting || refusal(number) != NULL) {
         hand_to_motors();
     }
     switch (number) {
@@ -74,28 +98,11 @@ static void settle(uint8_t number, size_t length)
         break;
     case RawdhusaqWaiting: /* the frame's other bytes are still to come; no time-out ends it */
         break;
-    case RawdhusaqUnknown: /* most likely a byte was lost, and data are read as opcodes */
-        note("refused: no such opcode", number);
+    case RawdhusaqUnknown: case RawdhusaqNotOffered: case RawdhusaqWrongMode:
+    case RawdhusaqNotLegal: case RawdhusaqNoSong: case RawdhusaqBusy: case RawdhusaqNoRoom:
+        note(refusal(number), number);
         break;
-    case RawdhusaqNotOffered: /* a host that wants scripts or waits */
-        note("refused: not offered", number);
-        break;
-    case RawdhusaqWrongMode: /* after a safety stop, say: the host has to enter Safe again */
-        note("refused: not in this mode", number);
-        break;
-    case RawdhusaqNotLegal: /* the order before it stays, so a robot that moves moves on */
-        note("refused: data not legal", number);
-        break;
-    case RawdhusaqNoSong:
-        note("refused: no such song", number);
-        break;
-    case RawdhusaqBusy:
-        note("refused: a song plays", number);
-        break;
-    case RawdhusaqNoRoom: /* not with a buffer of 832 bytes; with a shorter one, lend more */
-        note("refused: answer too long for the buffer", number);
-        break;
-    case RawdhusaqBadRecord:
+    case RawdhusaqBadRecord: /* motors off first, and then a new start */
     default: /* no other number is given; if one comes, nothing here is to be trusted */
         restart_board();
         break;

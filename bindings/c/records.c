@@ -267,8 +267,9 @@ void half_read(Random *random, RawdhusaqState *state)
     board_run(state, bytes, header, image, answer, sizeof answer);
     if (state->partial.remaining > 1) {
         /* Often all but the last byte, so that one byte more is judged. */
-        size_t left = random_below(random, 2) ? 1 : 1 + random_below(random, state->partial.remaining);
-        board_run(state, bytes, state->partial.remaining - left, image, answer, sizeof answer);
+        size_t owed = state->partial.remaining;
+        size_t left = random_below(random, 2) ? 1 : 1 + random_below(random, owed);
+        board_run(state, bytes, owed - left, image, answer, sizeof answer);
     }
 }
 
