@@ -21,6 +21,7 @@ extern Place place;
     do {                                                                                           \
         place.checks++;                                                                            \
         if (!(condition)) {                                                                        \
+            fflush(stdout);                                                                        \
             fprintf(stderr, "%s:%d: %s: not so: %s (seed %llu, record %llu)\n", __FILE__,          \
                 __LINE__, place.what, #condition, (unsigned long long)place.seed,                  \
                 (unsigned long long)place.record);                                                 \

@@ -357,7 +357,7 @@ static void tell(uint64_t count)
     printf("random records: %llu good, %llu bad; changed in one field: %llu good, %llu bad\n",
         (unsigned long long)random_tally.good, (unsigned long long)random_tally.bad,
         (unsigned long long)changed_tally.good, (unsigned long long)changed_tally.bad);
-    printf("good in Off, Passive, Safe, Full: %llu, %llu, %llu, %llu; with a half-read frame %llu\n",
+    printf("good in Off, Passive, Safe, Full: %llu, %llu, %llu, %llu; half-read %llu\n",
         (unsigned long long)mode_tally[0].good, (unsigned long long)mode_tally[1].good,
         (unsigned long long)mode_tally[2].good, (unsigned long long)mode_tally[3].good,
         (unsigned long long)held_count);
