@@ -45,8 +45,8 @@ static void restart_board(void)
     note("record damaged: motors cut, board started anew", RawdhusaqBadRecord);
 }
 
-/* Hands the motors what the record says. It is called after every call that took the record, so
- * that no way into Passive, a safety report among them, leaves a wheel turning. */
+/* Brings the motors to what the record says: a call that stops them does so in the record alone. A
+ * real robot likewise takes outputs, LEDs and infrared from `kept`, and the song from `songs`. */
 static void hand_to_motors(void)
 {
     const RawdhusaqMotors *motors = &board.motors;
@@ -87,9 +87,6 @@ static const char *refusal(uint8_t number)
 static void settle(uint8_t number, size_t length)
 {
     last_number = number;
-    if (number == RawdhusaqDone || number == RawdhusaqWaiting || refusal(number) != NULL) {
-        hand_to_motors();
-    }
     switch (number) {
     case RawdhusaqDone: /* the answer's bytes, no more than its length: what follows is old */
         if (length > 0) {
@@ -150,7 +147,11 @@ static void loop_once(unsigned pass)
 {
     uint8_t bytes[FifoSize];
     size_t count = line_read(bytes, sizeof bytes);
-    (void)feed(bytes, count);
+    (void)feed(bytes, count); /* after an 8 the rest is gone: the host has to start anew anyway */
+    if (seen.link_lost) {
+        seen.link_lost = false;
+        link_lost();
+    }
 
     /* On every pass, and not when a sensor changes: a host may enter Safe and drive off while the
      * wheel still hangs over the edge. A report of nothing changes nothing. */
@@ -165,10 +166,9 @@ static void loop_once(unsigned pass)
         RawdhusaqReply reply = board_tick(&board, image, answer, sizeof answer);
         settle(reply.number, reply.length);
     }
-    if (seen.link_lost) {
-        seen.link_lost = false;
-        link_lost();
-    }
+
+    /* Once a pass and behind the report, so that no order turns a wheel which the report stops. */
+    hand_to_motors();
 }
 
 /* ==== The bench =============================================================================== */
