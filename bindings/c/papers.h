@@ -19,7 +19,10 @@ size_t papers_frame(const RawdhusaqMessage *message, uint8_t frame[RawdhusaqLong
 /* The speed of each wheel. */
 RawdhusaqWheelSpeeds papers_speeds(uint8_t kind, int16_t first, int16_t second);
 
-/* Bytes of a packet's answer, of any id of 0 to 42. */
-unsigned papers_size(uint8_t id);
+/* The data of a packet, of any id of 0 to 42; how many bytes. */
+size_t papers_packet(uint8_t id, const RawdhusaqState *state, const uint8_t *image, uint8_t *to);
+
+/* The chunk of an accepted record; how many bytes, 0 where there is none to send. */
+size_t papers_chunk(const RawdhusaqState *state, const uint8_t *image, uint8_t *to);
 
 #endif

@@ -93,6 +93,8 @@ static const char *const call_names[CallCount] = {"board_byte", "board_run", "bo
 static const unsigned may_give[CallCount] = {0x3FF, 0x3FF, 0x101, 0x189, 0x101};
 
 static uint64_t given[CallCount][10];
+/* Answers of 142, and chunks, are compared byte for byte. */
+static uint64_t queries, chunks;
 
 /* What holds of every call that is lent a record and a buffer. */
 static void check_call(int call, const Record *record, const uint8_t *buffer, uint8_t number,
@@ -126,12 +128,30 @@ static void check_frame(const Record *record, uint8_t number)
     Check(lent_is(&expected));
 }
 
+/* What a query answers, of which the id is the byte that was lent. */
+static void check_query(const Record *record, uint8_t id, const uint8_t *buffer,
+    RawdhusaqReply reply)
+{
+    uint8_t data[52];
+    bool asked = record->given.mode != RawdhusaqOff && id <= 42;
+    size_t length = asked ? papers_packet(id, &record->given, image, data) : 0;
+    uint8_t number = record->given.mode == RawdhusaqOff ? 3
+        : id > 42 ? 4 : length > record->room ? 7 : 0;
+    Check(reply.number == number && reply.length == (number == 0 ? length : 0));
+    Check(memcmp(buffer, data, reply.length) == 0);
+    queries += number == 0;
+}
+
 static void try_byte(const Record *record, uint8_t b)
 {
     uint8_t *buffer = lend(record, "board_byte");
     RawdhusaqReply reply = board_byte(lent, b, image, buffer, record->room);
     check_call(CallByte, record, buffer, reply.number, reply.length);
     check_frame(record, reply.number);
+    const RawdhusaqPartial *held = &record->given.partial;
+    if (record->good && held->count == 1 && held->bytes[0] == 142) {
+        check_query(record, b, buffer, reply);
+    }
 }
 
 /* What the bytes do one by one, until one gives a number other than 9. */
@@ -193,16 +213,15 @@ static void try_tick(const Record *record)
     RawdhusaqReply reply = board_tick(lent, image, buffer, record->room);
     check_call(CallTick, record, buffer, reply.number, reply.length);
     Check(lent_is(&record->given));
-    if (record->good) {
-        Check((reply.number == RawdhusaqWrongMode) == (lent->mode == RawdhusaqOff));
+    if (!record->good) {
+        return;
     }
-    if (reply.length > 0) {
-        uint8_t sum = 0;
-        for (size_t i = 1; i < reply.length; i++) {
-            sum = (uint8_t)(sum + buffer[i]);
-        }
-        Check(buffer[0] == 19 && buffer[1] == reply.length - 3 && sum == 0);
-    }
+    uint8_t chunk[RawdhusaqLongestChunk];
+    size_t length = papers_chunk(&record->given, image, chunk);
+    uint8_t number = record->given.mode == RawdhusaqOff ? 3 : length > record->room ? 7 : 0;
+    Check(reply.number == number && reply.length == (number == 0 ? length : 0));
+    Check(memcmp(buffer, chunk, reply.length) == 0);
+    chunks += reply.length > 0;
 }
 
 static void try_song_end(const Record *record)
@@ -362,12 +381,14 @@ static void tell(uint64_t count)
         (unsigned long long)mode_tally[2].good, (unsigned long long)mode_tally[3].good,
         (unsigned long long)held_count);
     uint64_t calls = tell_calls(enough);
+    printf("compared byte for byte: %llu answers of 142, %llu chunks\n",
+        (unsigned long long)queries, (unsigned long long)chunks);
     place.what = "classes";
     if (enough) {
         Check(random_tally.bad > 0);
         Check(changed_tally.good > count / 20 && changed_tally.bad > count / 20);
         Check(mode_tally[0].good && mode_tally[1].good && mode_tally[2].good && mode_tally[3].good);
-        Check(held_count > 0 && count / 4 >= change_count());
+        Check(held_count > 0 && count / 4 >= change_count() && queries > 0 && chunks > 0);
     } else {
         printf("fewer than %d records: that no class is empty is not asked\n", EnoughRecords);
     }
