@@ -1,5 +1,5 @@
-/* The rules a second time, in C, written from the project's papers and from nothing of the library:
- * the tests hold the library against them. */
+/* The rules a second time, in C, written from the project's papers and sharing nothing with the
+ * library's source: the tests hold the library against them. */
 #ifndef Papers_h
 #define Papers_h
 
