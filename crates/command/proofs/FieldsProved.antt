@@ -1,6 +1,6 @@
 -- The theorem of specs/Fields.antt.
 -- Assumes nothing.
-use mathlib.Core.Path.{_≡_, refl, sym, ap, subst, _∙_}
+use mathlib.Core.Path.{_≡_, refl, sym, ap, ap₂, subst, _∙_}
 use mathlib.Core.Bool.{Bool, true, false, cond}
 use mathlib.Core.List.{List, [], _∷_}
 use Prim.Native.Nat.{ℕ, zero, suc, _-_, _<_}
@@ -18,12 +18,13 @@ use Rattle.wire.specs.Replies.{refused}
 use Rattle.wire.proofs.BoolLaws.{to-T}
 use Rattle.wire.proofs.ListsLaws.{byte-at}
 use Rattle.wire.proofs.SignedLaws.{round-trip-bits}
+use Rattle.wire.proofs.SixteenLaws.{round-trip16}
 use Rattle.wire.proofs.RepliesLaws.{reply-4}
 use Rattle.command.specs.Layout.{Item, byte, signedByte, word, formOf, headOf, encodeOf, commandOf}
 use Rattle.command.specs.CommandTable.{rowOf, legalOf, writeReply}
 use Rattle.command.specs.Cases.{rowOpcodes}
 use Rattle.command.specs.Commands.{message}
-use Rattle.command.specs.Fields.{twoWords, openingOf, messageOf, bytesIn, wordsIn, fieldsOf, InRange, FieldsRight}
+use Rattle.command.specs.Fields.{twoWords, openingOf, messageOf, bytesIn, wordsIn, fieldsOf, InRange, RowsSaid, FieldsRight}
 use Rattle.command.specs.declared.Command.{Command}
 use Rattle.command.specs.declared.Command.the-variants.{Start, Baud, Control, Safe, Full, Power, Demo, Spot, Cover, Dock, Drive, Direct, Drivers, Duties, Leds, Outputs, Infrared, Song, Play, Sensors, QueryList, Stream, Pause, Unknown, NotOffered}
 use Rattle.command.specs.declared.Message.{Message}
@@ -101,6 +102,24 @@ in-range m e array =
       payload-array = array;
     }
 
+-- ---- the table
+
+rows : (f : Fields) → InRange f → RowsSaid f
+unfolding messageOf commandOf
+rows f r =
+    let first = round-trip16 .read-written (f .first) (r .first-word) in
+    let second = round-trip16 .read-written (f .second) (r .second-word) in
+    record {
+      none = refl;
+      a-alone = refl;
+      a-b-c = refl;
+      drive = ap₂ Drive first second;
+      direct = ap₂ Direct first second;
+      song = refl;
+      lists = refl;
+      payload-kept = refl;
+    }
+
 -- ---- any other opcode
 
 opcode-first : (w : Bool) (op : ℕ) (x y : List ℕ) → getD (padded 35 (cond w (op ∷ x) (op ∷ y))) 0 0 ≡ op
@@ -123,6 +142,7 @@ other-4 f e room =
 pub fields-right : FieldsRight
 fields-right =
     record {
+      rows = rows;
       in-range = in-range;
       says-it = says-it;
       written-same = λ m e room. ap (λ (x : Message). writeReply x room) (says-it m e);

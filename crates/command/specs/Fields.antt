@@ -2,7 +2,7 @@
 -- Assumes nothing.
 use mathlib.Core.Path.{_≡_}
 use mathlib.Core.Bool.{Bool, true, false, cond, _||_}
-use mathlib.Core.List.{List, [], _∷_, _++_}
+use mathlib.Core.List.{List, [], _∷_, _++_, map}
 use Prim.Native.Nat.{ℕ, _<_}
 use lib.Dec.{T, eqb}
 use lib.IntN.{ℤ, pos}
@@ -10,12 +10,14 @@ use lib.ListN.{getD}
 use mir.Syntax.{w16}
 use mir.Val.{SFits}
 use Rattle.wire.specs.Lists.{among, padded, byteArray}
-use Rattle.wire.specs.Signed.{bits8Of}
+use Rattle.wire.specs.Signed.{bits8Of, read8Of}
 use Rattle.wire.specs.Sixteen.{be16}
 use Rattle.wire.specs.Replies.{refused}
 use Rattle.command.specs.Layout.{Item, byte, signedByte, word, formOf, opcodeOf, commandOf}
 use Rattle.command.specs.CommandTable.{legalOf, writeReply}
 use Rattle.command.specs.Cases.{rowOpcodes}
+use Rattle.command.specs.declared.Command.{Command}
+use Rattle.command.specs.declared.Command.the-variants.{Start, Baud, Control, Safe, Full, Power, Demo, Spot, Cover, Dock, Drive, Direct, Drivers, Duties, Leds, Outputs, Infrared, Song, Play, Sensors, QueryList, Stream, Pause}
 use Rattle.command.specs.declared.Message.{Message}
 use Rattle.command.specs.declared.Fields.{Fields}
 
@@ -77,8 +79,28 @@ pub record InRange (f : Fields) : Type 0 where
   pub second-word : SFits w16 (f .second)
   pub payload-array : T (byteArray 32 (f .payload))
 
+-- the command that fields say with this opcode in the place of their own
+abbrev pub says : Fields → ℕ → Command
+says f op =
+    messageOf (record { opcode = op; a = f .a; b = f .b; c = f .c; first = f .first; second = f .second; payload = f .payload }) .command
+
+-- the rows of docs/CALLS.md, in its order, but the last, which is `other-4`: which fields are a command's data. No other makes a difference.
+pub record RowsSaid (f : Fields) : Type 0 where
+  pub none : map (says f) (128 ∷ 130 ∷ 131 ∷ 132 ∷ 133 ∷ 134 ∷ 135 ∷ 143 ∷ []) ≡ Start ∷ Control ∷ Safe ∷ Full ∷ Power ∷ Spot ∷ Cover ∷ Dock ∷ []
+  pub a-alone : map (says f) (129 ∷ 136 ∷ 138 ∷ 141 ∷ 142 ∷ 147 ∷ 150 ∷ 151 ∷ [])
+      ≡ Baud (f .a) ∷ Demo (read8Of (f .a)) ∷ Drivers (f .a) ∷ Play (f .a) ∷ Sensors (f .a) ∷ Outputs (f .a) ∷ Pause (f .a) ∷ Infrared (f .a) ∷ []
+  pub a-b-c : map (says f) (139 ∷ 144 ∷ []) ≡ Leds (f .a) (f .b) (f .c) ∷ Duties (f .a) (f .b) (f .c) ∷ []
+  pub drive : says f 137 ≡ Drive (f .first) (f .second)
+  pub direct : says f 145 ≡ Direct (f .first) (f .second)
+  pub song : says f 140 ≡ Song (f .a) (f .b)
+  pub lists : map (says f) (148 ∷ 149 ∷ []) ≡ Stream (f .a) ∷ QueryList (f .a) ∷ []
+  -- notes and ids, in the first places
+  pub payload-kept : messageOf f .payload ≡ f .payload
+
 -- THEOREM: flat fields say every message that can be written, and nothing else
 pub record FieldsRight : Type 0 where
+  -- any fields of their types, legal data or not, say what the table has
+  pub rows : (f : Fields) → InRange f → RowsSaid f
   -- every legal message has flat fields, which say it
   pub in-range : (m : Message) → legalOf m ≡ true → T (byteArray 32 (m .payload)) → InRange (fieldsOf m)
   pub says-it : (m : Message) → legalOf m ≡ true → messageOf (fieldsOf m) ≡ m
