@@ -1,18 +1,14 @@
 -- The theorem of specs/Border.antt.
 -- Assumes nothing.
 use mathlib.Core.Path.{_≡_, refl, ap}
-use mathlib.Core.Bool.{Bool, true, false, not}
+use mathlib.Core.Bool.{true, not}
 use Prim.Native.Nat.{ℕ, _<_}
 use native.Mathlib.Omega.{arith}
 use borrow.Author.Tests.{ne-eqb}
-use Rattle.firmware.specs.Border.{isSet, flagOf, toldAs, BorderRight}
+use Rattle.firmware.specs.Border.{isSet, toldAs, BorderRight}
 
 set : (flag : ℕ) → 0 < flag → isSet flag ≡ true
 set flag h = ap not (ne-eqb flag 0 (λ (e : flag ≡ 0). omega arith))
-
-out-in : (b : Bool) → isSet (flagOf b) ≡ b
-out-in true = refl
-out-in false = refl
 
 pub border-right : BorderRight
 unfolding toldAs
@@ -25,5 +21,5 @@ border-right =
       same-number = λ s. refl;
       same-right = λ s. refl;
       same-left = λ s. refl;
-      same-capped = λ s. out-in (s .capped);
+      flag-capped = λ s. refl;
     }

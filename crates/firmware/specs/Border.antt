@@ -28,4 +28,4 @@ pub record BorderRight : Type 0 where
   pub same-number : (s : Speeds) → toldAs s .number ≡ s .number
   pub same-right : (s : Speeds) → toldAs s .right ≡ s .right
   pub same-left : (s : Speeds) → toldAs s .left ≡ s .left
-  pub same-capped : (s : Speeds) → isSet (toldAs s .capped) ≡ s .capped
+  pub flag-capped : (s : Speeds) → toldAs s .capped ≡ flagOf (s .capped)
