@@ -84,7 +84,8 @@ abbrev pub says : Fields → ℕ → Command
 says f op =
     messageOf (record { opcode = op; a = f .a; b = f .b; c = f .c; first = f .first; second = f .second; payload = f .payload }) .command
 
--- the rows of docs/CALLS.md, in its order, but the last, which is `other-4`: which fields are a command's data. No other makes a difference.
+-- which fields are a command's data, by the rows of docs/CALLS.md in their order, but for the last,
+-- which is `other-4`. No other field makes a difference.
 pub record RowsSaid (f : Fields) : Type 0 where
   pub none : map (says f) (128 ∷ 130 ∷ 131 ∷ 132 ∷ 133 ∷ 134 ∷ 135 ∷ 143 ∷ []) ≡ Start ∷ Control ∷ Safe ∷ Full ∷ Power ∷ Spot ∷ Cover ∷ Dock ∷ []
   pub a-alone : map (says f) (129 ∷ 136 ∷ 138 ∷ 141 ∷ 142 ∷ 147 ∷ 150 ∷ 151 ∷ [])
