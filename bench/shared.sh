@@ -45,11 +45,12 @@ make() {
     "$calls" "$1" "$2" "$3" >"$input" || fail "no input of kind $1, seed $2"
 }
 
-# first_difference: the first line in which the traces of the input differ: its
-# number, what differs in it, and both lines. Nothing if they don't differ.
-# Whoever asks has a function ours_trace, which writes one of the traces.
+# first_difference [NAME]: the first line in which the traces of the input differ:
+# its number, what differs in it, and both lines. Nothing if they don't differ.
+# Whoever asks has a function ours_trace, which writes one of the traces; its
+# lines are told under the name, or as ours.
 first_difference() {
-    awk -v ours=<(ours_trace) -v twin=<("$twin" trace <"$input") '
+    awk -v name="${1:-ours}" -v ours=<(ours_trace) -v twin=<("$twin" trace <"$input") '
         BEGIN {
             while (1) {
                 more_ours = (getline a <ours) > 0
@@ -72,7 +73,7 @@ first_difference() {
                 place = " at byte " (j - 1) / 2
             }
             print "call " line ": the " (i <= 5 ? what[i] : "line") " differs" place
-            print "ours: " a
+            print name ": " a
             print "twin: " b
         }'
 }

@@ -1,4 +1,4 @@
-//! Holds the wheel speeds of the other implementation's library, `libdrive.a`,
+//! Holds the wheel speeds of the other implementation's library, `libfirmware.a`,
 //! against the twin's, and measures both.
 //!
 //! It ends with a failure at the first order on which they differ.
@@ -22,8 +22,8 @@ const SOME: [i16; 33] = [
     0, 1, 2, 128, 129, 130, 200, 499, 500, 501, 705, 1548, 1999, 2000, 2001, 32765, 32766, 32767,
 ];
 
-/// What a call gives, laid out as the library does. The flag is a byte here, so
-/// that one which is neither 0 nor 1 can be told.
+/// What a call gives, laid out as the library does. What says whether a speed was
+/// capped is a number there, 0 or 1; any other can be told here.
 #[repr(C)]
 #[derive(Clone, Copy, PartialEq, Eq)]
 struct Told {
@@ -33,7 +33,7 @@ struct Told {
     capped: u8,
 }
 
-#[link(name = "drive", kind = "static")]
+#[link(name = "firmware", kind = "static")]
 extern "C" {
     fn wheel_speeds(kind: u8, first: i16, second: i16) -> Told;
 }
