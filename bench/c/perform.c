@@ -20,7 +20,7 @@ enum { FirstRoom = 832 };
 /* The board and its surroundings. */
 typedef struct {
     RawdhusaqState state; /* lent to each call in its place, and never copied */
-    const uint8_t *image;
+    uint8_t image[RawdhusaqImageSize];
     size_t room;
     uint8_t buffer[LargestRoom]; /* all 0 between two calls */
 } Bench;
@@ -82,7 +82,7 @@ static int perform_record(Bench *bench, const Record *record, Told *told)
     RawdhusaqRunReply reply;
     switch (record->kind) {
     case KindImage:
-        bench->image = record->body;
+        memcpy(bench->image, record->body, sizeof bench->image);
         return 0;
     case KindRoom:
         bench->room = record->number;
@@ -111,68 +111,37 @@ static int perform_record(Bench *bench, const Record *record, Told *told)
     return tell(bench, &reply, told);
 }
 
-/* Performs a file up to its end or its first fault, and writes what it gave. Gives 0 or -1. */
+/* Performs a file up to its end or its first fault, and writes what it gave. Gives 0, or -1 where
+ * that can't be, which it tells. */
 static int perform(Records *records, Form form)
 {
-    static const uint8_t FirstImage[RawdhusaqImageSize];
-    Bench bench = { .image = FirstImage, .room = FirstRoom };
+    Bench bench = { .room = FirstRoom };
     Told told = nothing_told(form);
     const char *why = NULL;
     board_power_on(&bench.state);
-    while (records->offset < records->size) {
+    while (why == NULL && has_record(records)) {
         Record record;
         why = read_record(records, &record);
-        if (why != NULL) {
-            break;
-        }
-        if (perform_record(&bench, &record, &told) != 0) {
+        if (why == NULL && perform_record(&bench, &record, &told) != 0) {
             return -1;
         }
     }
+    if (records->error != 0) {
+        fprintf(stderr, "perform: can't read: %s\n", strerror(records->error));
+        return -1;
+    }
     tell_end(&told);
     if (why != NULL) {
-        printf("offset %zu: %s\n", records->offset, why);
+        printf("offset %zu: %s\n", records->offset + records->start, why);
     }
     return 0;
-}
-
-/* ---- Standard input and output. */
-
-/* All of standard input, in memory that is the caller's; null where that can't be. */
-static uint8_t *read_all(size_t *size)
-{
-    size_t room = 0, got = 0;
-    uint8_t *bytes = NULL;
-    while (got == room) {
-        room = room == 0 ? 65536 : 2 * room;
-        uint8_t *more = realloc(bytes, room);
-        if (more == NULL) {
-            free(bytes);
-            return NULL;
-        }
-        bytes = more;
-        got += fread(bytes + got, 1, room - got, stdin);
-    }
-    if (ferror(stdin)) {
-        free(bytes);
-        return NULL;
-    }
-    *size = got;
-    return bytes;
 }
 
 /* Performs standard input. Gives the status to end with. */
 static int perform_input(Form form)
 {
-    Records records = { .offset = 0 };
-    uint8_t *bytes = read_all(&records.size);
-    if (bytes == NULL) {
-        fprintf(stderr, "perform: can't read: %s\n", strerror(errno));
-        return EXIT_FAILURE;
-    }
-    records.bytes = bytes;
+    Records records = { .file = stdin };
     int performed = perform(&records, form);
-    free(bytes);
     if (fflush(stdout) != 0 || ferror(stdout)) {
         fprintf(stderr, "perform: can't write: %s\n", strerror(errno));
         return EXIT_FAILURE;

@@ -1,5 +1,8 @@
 #include "records.h"
 
+#include <errno.h>
+#include <string.h>
+
 #include "rawdhusaq.h"
 
 /* How many bytes a record of each kind has, its kind with them, and of a run those before its
@@ -16,6 +19,19 @@ static const uint16_t Sizes[256] = {
     [KindMessage] = 1 + MessageSize,
 };
 
+_Static_assert(1 + StateSize <= LongestRecord && LongestRecord <= WindowSize, "window");
+
+void move_window(Records *records)
+{
+    size_t held = records->end - records->start;
+    memmove(records->window, records->window + records->start, held);
+    records->offset += records->start;
+    records->start = 0;
+    records->end = held + fread(records->window + held, 1, WindowSize - held, records->file);
+    records->ended = records->end < WindowSize;
+    records->error = ferror(records->file) ? errno : 0;
+}
+
 /* A run's length is judged before its slice is there. */
 static const char *read_run(Records *records, Record *record, size_t left)
 {
@@ -27,7 +43,7 @@ static const char *read_run(Records *records, Record *record, size_t left)
         return "cut short";
     }
     record->body += 2;
-    records->offset += record->number;
+    records->start += record->number;
     return NULL;
 }
 
@@ -39,8 +55,8 @@ static const char *read_room(Record *record)
 
 const char *read_record(Records *records, Record *record)
 {
-    const uint8_t *start = records->bytes + records->offset;
-    size_t left = records->size - records->offset;
+    const uint8_t *start = records->window + records->start;
+    size_t left = records->end - records->start;
     size_t size = Sizes[*start];
     const char *why = NULL;
     if (size == 0) {
@@ -59,7 +75,7 @@ const char *read_record(Records *records, Record *record)
         why = "flags above 7";
     }
     if (why == NULL) {
-        records->offset += size;
+        records->start += size;
     }
     return why;
 }

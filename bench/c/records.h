@@ -4,6 +4,7 @@
 
 #include <stddef.h>
 #include <stdint.h>
+#include <stdio.h>
 
 /* ---- Kinds of records. */
 enum {
@@ -27,14 +28,21 @@ enum {
     MessageSize = 40
 };
 
-/* A file in memory. */
+enum { LongestRecord = 1 + 2 + LongestRun, WindowSize = 65536 };
+
+/* A file, read piece by piece: a window of it stands in memory, which takes less time than all of
+ * a long file. */
 typedef struct {
-    const uint8_t *bytes; /* not null, even where there are none */
-    size_t size;
-    size_t offset; /* where the next record begins */
+    FILE *file;
+    int ended;     /* whether there is nothing to read any more */
+    int error;     /* errno, where reading failed; else 0 */
+    size_t offset; /* in the file, of the window's first byte */
+    size_t start;  /* in the window, of the next record */
+    size_t end;    /* in the window, of what was read */
+    uint8_t window[WindowSize];
 } Records;
 
-/* A record. Its body stays in the file: it is lent from there, and not copied. */
+/* A record. Its body is lent from the window, until the next record is asked for. */
 typedef struct {
     uint8_t kind;
     const uint8_t *body; /* of a run its slice */
@@ -47,8 +55,20 @@ static inline uint16_t two_bytes(const uint8_t *bytes)
     return (uint16_t)(bytes[0] << 8 | bytes[1]);
 }
 
-/* The next record, which the file must have: offset is below size. Gives null; or why the record
- * is at fault, and then it is left where it is. */
+/* Moves the window on, so that the next record is its first. */
+void move_window(Records *records);
+
+/* Whether the file goes on. Then the window holds its next record, or as much as there is. */
+static inline int has_record(Records *records)
+{
+    if (records->end - records->start < LongestRecord && !records->ended) {
+        move_window(records);
+    }
+    return records->start < records->end;
+}
+
+/* The next record, where there is one. Gives null; or why the record is at fault, and then it is
+ * left where it is. */
 const char *read_record(Records *records, Record *record);
 
 #endif
