@@ -24,7 +24,8 @@
 // Proved (specs/Commands.antt): what the writer writes, pushed byte by byte, is complete at its
 // last byte and not before, and is read back, with 0 in the places of the payload that are not in
 // use; every frame of legal data is what the writer writes of its message; a frame has at most 35
-// bytes; a refusal writes nothing.
+// bytes; a refusal writes nothing. And (specs/Fields.antt): flat fields say every message that can
+// be written, by the rows of docs/CALLS.md.
 ghost use mathlib.Core.Path.{_≡_};
 ghost use mathlib.Core.List.{[], _∷_, _++_};
 ghost use Rattle.wire.specs.Lists.{within, padded};
@@ -97,8 +98,8 @@ pub struct Message {
 }
 
 // A message in flat fields, for callers that have no enum, as in C: the opcode, data bytes as they
-// are sent, the two words of a Drive or a Direct, and the payload. Which of them are a command's data
-// is in docs/CALLS.md; the others are ignored.
+// are sent, the two words of a Drive or a Direct, and the payload. Which of them are a command's
+// data is in docs/CALLS.md; the others are ignored.
 #[repr(C)]
 pub struct Fields {
     pub opcode: u8,
