@@ -12,12 +12,14 @@
 /* ---- What the loop needs of the hardware. The bench below defines it. */
 
 static size_t line_read(uint8_t *bytes, size_t room);
+static void line_discard(void);
 static void line_send(const uint8_t *bytes, size_t length);
 static void motors_set(int right, int left, const uint8_t duties[3]);
 static void motors_cut(void);
 static void note(const char *what, int number);
 
-/* What the sensors say now. A bump is in the image alone: it is no part of a safety report. */
+/* What the sensors say now, and whether the radio has lost its link. A bump is in the image alone:
+ * it is no part of a safety report. */
 static struct {
     bool drop, cliff, charger;
     bool song_ended;
@@ -26,7 +28,9 @@ static struct {
 
 /* ==== The loop ================================================================================ */
 
-enum { TickEvery = 15, FifoSize = 16 };
+/* In milliseconds: how often a chunk is sent, and how long a host may be silent. */
+enum { TickEvery = 15, SilenceLimit = 25 };
+enum { FifoSize = 16 };
 
 static RawdhusaqState board;
 static uint8_t image[RawdhusaqImageSize];
@@ -36,12 +40,15 @@ static uint8_t answer[RawdhusaqLongestAnswer];
 static uint8_t last_number;
 
 /* A damaged record answers 8 to every call, 128 too: no command can stop this robot any more. So
- * the motors are cut at the hardware first, and only then is the board started anew, in Off. The
- * host sees the board fall silent, and has to begin with 128. */
+ * the motors are cut at the hardware first, and only then is the board started anew, in Off. What
+ * the line still holds was meant for the board as it was. The host sees the board fall silent, and
+ * has to begin with 128. */
 static void restart_board(void)
 {
     motors_cut();
+    line_discard();
     board_power_on(&board);
+    last_number = RawdhusaqBadRecord;
     note("record damaged: motors cut, board started anew", RawdhusaqBadRecord);
 }
 
@@ -49,13 +56,13 @@ static void restart_board(void)
  * real robot likewise takes outputs, LEDs and infrared from `kept`, and the song from `songs`. */
 static void hand_to_motors(void)
 {
-    const RawdhusaqMotors *motors = &board.motors;
-    RawdhusaqWheelSpeeds speeds = wheel_speeds(motors->order, motors->first, motors->second);
-    if (speeds.number != RawdhusaqDone) {
-        /* The order of a record that the board took is legal, so the record was hit since. */
-        motors_cut();
+    /* Each call asks the same; this one is for what hit the record since the last of them. */
+    if (!board_accepts(&board)) {
+        restart_board();
         return;
     }
+    const RawdhusaqMotors *motors = &board.motors;
+    RawdhusaqWheelSpeeds speeds = wheel_speeds(motors->order, motors->first, motors->second);
     motors_set(speeds.right, speeds.left, motors->duties);
 }
 
@@ -124,34 +131,63 @@ static bool feed(const uint8_t *bytes, size_t count)
     return true;
 }
 
-/* The board has no clock, and drives on when a host falls silent. Whatever frame was half read,
- * 511 bytes 128 lead to Passive with the motors off; fewer would not always do. */
-static void link_lost(void)
+static bool motors_off(void)
+{
+    const RawdhusaqMotors *motors = &board.motors;
+    return motors->order == RawdhusaqNoOrder && motors->duties[0] == 0 && motors->duties[1] == 0
+        && motors->duties[2] == 0;
+}
+
+/* Whatever frame is half read, 511 bytes 128 lead to Passive with the motors off; fewer would not
+ * always do. The motors are not set between them: one of them can end a frame that starts one. */
+static void stop_board(const char *why)
 {
     uint8_t starts[RawdhusaqLogOutBytes];
     memset(starts, RawdhusaqStart, sizeof starts);
-    bool all = feed(starts, sizeof starts);
-    /* After an 8 the board is in Off, and its motors are cut: that is a stop as well. It is
-     * looked at all the same, since this is the last moment at which somebody can. */
-    bool stopped = board.mode == (all ? RawdhusaqPassive : RawdhusaqOff)
-        && board.motors.order == RawdhusaqNoOrder && board.motors.duties[0] == 0
-        && board.motors.duties[1] == 0 && board.motors.duties[2] == 0;
-    if (!stopped) {
-        motors_cut();
+    /* After an 8 the board is in Off, and its motors are cut: that is a stop as well. It is looked
+     * at all the same, since this is the last moment at which somebody can. To cut the motors
+     * alone would not do: the order would stay in the record, and come back with the next pass. */
+    uint8_t mode = feed(starts, sizeof starts) ? RawdhusaqPassive : RawdhusaqOff;
+    if (board.mode != mode || !motors_off()) {
+        restart_board();
     }
-    note(stopped ? "link lost: stopped" : "link lost: NOT STOPPED, motors cut", board.mode);
+    note(why, board.mode);
+}
+
+/* Whether a driver is there. The board has no clock, and drives on when a host falls silent, so
+ * this is the firmware's to see: by the radio's word, or by the time since the last byte. */
+static bool driver_there(unsigned pass, bool bytes_came)
+{
+    static unsigned last_byte;
+    if (bytes_came) {
+        last_byte = pass;
+    }
+    return !seen.link_lost && pass - last_byte < SilenceLimit;
+}
+
+/* The line's part of a pass. Once the driver is gone the board is stopped, and what the line's
+ * buffer still holds is thrown away: an old Safe and Drive would move the robot once more. */
+static void serve_line(unsigned pass)
+{
+    static bool stopped;
+    uint8_t bytes[FifoSize];
+    size_t count = line_read(bytes, sizeof bytes);
+    if (driver_there(pass, count > 0)) {
+        stopped = false;
+        (void)feed(bytes, count); /* after an 8 the rest is gone: the host starts anew anyway */
+        return;
+    }
+    line_discard();
+    if (!stopped && board.mode != RawdhusaqOff) {
+        stop_board(seen.link_lost ? "link lost: stopped" : "no byte came: stopped");
+    }
+    stopped = true;
 }
 
 /* One pass of the loop. `pass` is the loop's own counter, here of milliseconds. */
 static void loop_once(unsigned pass)
 {
-    uint8_t bytes[FifoSize];
-    size_t count = line_read(bytes, sizeof bytes);
-    (void)feed(bytes, count); /* after an 8 the rest is gone: the host has to start anew anyway */
-    if (seen.link_lost) {
-        seen.link_lost = false;
-        link_lost();
-    }
+    serve_line(pass);
 
     /* On every pass, and not when a sensor changes: a host may enter Safe and drive off while the
      * wheel still hangs over the edge. A report of nothing changes nothing. */
@@ -173,14 +209,16 @@ static void loop_once(unsigned pass)
 
 /* ==== The bench =============================================================================== */
 
-typedef enum { Sends, SendsBytes, Cliff, CliffGone, SongEnds, LinkDrops, RecordHit } Kind;
+typedef enum {
+    Sends, SendsBytes, Cliff, CliffGone, SongEnds, LinkDrops, LinkBack, Silence, RecordHit
+} Kind;
 
 /* What happens at a time, and what is to be so when the next event comes. */
 typedef struct {
     unsigned at;
     Kind kind;
     const char *what;
-    RawdhusaqMessage message; /* of Sends */
+    RawdhusaqMessage message; /* of Sends; of LinkDrops, what still waits in the line's buffer */
     uint8_t bytes[5];         /* of SendsBytes: what host_write would not write */
     size_t count;
     uint8_t number; /* of the first call after it that gave another than 0 and 9, or 0 */
@@ -227,12 +265,18 @@ static const Event events[] = {
         .message = {.opcode = Direct, .first = 300, .second = -300}},
     {.at = 64, .kind = SendsBytes, .what = "140 0 255, and no more", .bytes = {140, 0, 255},
         .count = 3, .mode = 3, .right = 300, .left = -300},
-    {.at = 66, .kind = LinkDrops, .what = "link drops", .number = 4, .mode = 1},
-    {.at = 68, .kind = Sends, .what = "Safe", .message = {.opcode = SafeMode}, .mode = 2},
-    {.at = 70, .kind = Sends, .what = "Direct 100 100", .mode = 2, .right = 100, .left = 100,
+    {.at = 66, .kind = LinkDrops, .what = "link drops, with orders on the way", .number = 4,
+        .mode = 1, .message = {.opcode = Direct, .first = 200, .second = 200}},
+    {.at = 70, .kind = LinkBack, .what = "link is back", .mode = 1},
+    {.at = 72, .kind = Sends, .what = "Safe", .message = {.opcode = SafeMode}, .mode = 2},
+    {.at = 74, .kind = Sends, .what = "Direct 100 100", .mode = 2, .right = 100, .left = 100,
         .message = {.opcode = Direct, .first = 100, .second = 100}},
-    {.at = 72, .kind = RecordHit, .what = "a bit of the record flips", .number = 8},
-    {.at = 74, .kind = Sends, .what = "Start", .message = {.opcode = RawdhusaqStart}, .mode = 1},
+    {.at = 76, .kind = Silence, .what = "the host falls silent", .mode = 1},
+    {.at = 106, .kind = Sends, .what = "Safe", .message = {.opcode = SafeMode}, .mode = 2},
+    {.at = 108, .kind = Sends, .what = "Direct 100 100", .mode = 2, .right = 100, .left = 100,
+        .message = {.opcode = Direct, .first = 100, .second = 100}},
+    {.at = 110, .kind = RecordHit, .what = "a bit of the record flips", .number = 8},
+    {.at = 112, .kind = Sends, .what = "Start", .message = {.opcode = RawdhusaqStart}, .mode = 1},
 };
 
 enum { EventCount = sizeof events / sizeof events[0] };
@@ -260,6 +304,11 @@ static size_t line_read(uint8_t *bytes, size_t room)
     memmove(waiting, waiting + count, waiting_count - count);
     waiting_count -= count;
     return count;
+}
+
+static void line_discard(void)
+{
+    waiting_count = 0;
 }
 
 static void line_send(const uint8_t *bytes, size_t length)
@@ -317,6 +366,15 @@ static void host_sends(const RawdhusaqMessage *message)
     arrive(frame, reply.length);
 }
 
+/* More than a pass reads, so that some of it is still there when the next one comes. */
+static void orders_arrive(const RawdhusaqMessage *order)
+{
+    for (int i = 0; i < 4; i++) {
+        host_sends(&(RawdhusaqMessage){.opcode = SafeMode});
+        host_sends(order);
+    }
+}
+
 static void happen(const Event *event)
 {
     printf("%s%2u ms: %s", now > events[0].at ? "\n" : "", now, event->what);
@@ -337,7 +395,13 @@ static void happen(const Event *event)
         seen.song_ended = true;
         break;
     case LinkDrops:
+        orders_arrive(&event->message);
         seen.link_lost = true;
+        break;
+    case LinkBack:
+        seen.link_lost = false;
+        break;
+    case Silence:
         break;
     case RecordHit:
         ((uint8_t *)&board)[0] ^= 64;
