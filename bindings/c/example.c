@@ -267,7 +267,7 @@ static const Event events[] = {
         .count = 3, .mode = 3, .right = 300, .left = -300},
     {.at = 66, .kind = LinkDrops, .what = "link drops, with orders on the way", .number = 4,
         .mode = 1, .message = {.opcode = Direct, .first = 200, .second = 200}},
-    {.at = 70, .kind = LinkBack, .what = "link is back", .mode = 1},
+    {.at = 67, .kind = LinkBack, .what = "link is back", .mode = 1},
     {.at = 72, .kind = Sends, .what = "Safe", .message = {.opcode = SafeMode}, .mode = 2},
     {.at = 74, .kind = Sends, .what = "Direct 100 100", .mode = 2, .right = 100, .left = 100,
         .message = {.opcode = Direct, .first = 100, .second = 100}},

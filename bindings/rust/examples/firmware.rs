@@ -3,46 +3,74 @@
 
 use rawdhusaq::*;
 
-/// What the loop wakes up for.
-enum Event {
-    /// Bytes have come over the line.
-    Bytes(&'static [u8]),
-    /// The safety sensors were read: wheel drop, cliff, powered charger.
-    Sensors(bool, bool, bool),
-    /// The time of a chunk has come.
-    Tick,
+/// What the loop finds on a pass.
+#[derive(Clone, Copy, Default)]
+struct Pass {
+    /// Bytes that have come over the line.
+    bytes: &'static [u8],
+    /// The safety sensors: wheel drop, cliff, powered charger.
+    sensors: (bool, bool, bool),
     /// The song that played is over.
-    SongEnd,
+    song_ended: bool,
     /// The link is down, or was silent for too long. The board has no clock: it is for
     /// the firmware to see this.
-    LinkLost,
+    driver_gone: bool,
     /// For the sake of the example: something writes into the record.
-    Damage,
+    damage: bool,
+}
+
+const NOTHING: Pass = Pass {
+    bytes: &[],
+    sensors: (false, false, false),
+    song_ended: false,
+    driver_gone: false,
+    damage: false,
+};
+
+const fn came(bytes: &'static [u8]) -> Pass {
+    Pass { bytes, ..NOTHING }
 }
 
 /// An hour at the clinic, in short.
-const EVENTS: &[Event] = &[
-    Event::Tick,
-    Event::Bytes(&[128, 131, 140, 0, 1, 69, 64, 141, 0]),
+const PASSES: &[Pass] = &[
+    NOTHING,
+    came(&[128, 131, 140, 0, 1, 69, 64, 141, 0]),
     // A frame may come in pieces, and two in one piece.
-    Event::Bytes(&[137, 0]),
-    Event::Bytes(&[200, 1, 244, 149, 3, 35, 39, 40]),
-    Event::SongEnd,
-    Event::Bytes(&[148, 2, 29, 13]),
-    Event::Tick,
-    Event::Bytes(&[146, 137, 1, 245, 1, 244]),
-    Event::Sensors(false, true, false),
-    Event::Bytes(&[132, 145, 0, 100, 0, 100, 138, 7, 140, 0, 255]),
-    Event::LinkLost,
-    Event::Damage,
-    Event::Bytes(&[128, 131]),
-    Event::Bytes(&[128, 131, 137, 0, 100, 127, 255]),
-    Event::LinkLost,
+    came(&[137, 0]),
+    came(&[200, 1, 244, 149, 3, 35, 39, 40]),
+    Pass {
+        song_ended: true,
+        ..NOTHING
+    },
+    came(&[148, 2, 29, 13]),
+    came(&[146, 137, 1, 245, 1, 244]),
+    // The cliff was seen before these orders, and is seen still: no wheel turns.
+    Pass {
+        bytes: &[131, 137, 0, 200, 1, 244],
+        sensors: (false, true, false),
+        ..NOTHING
+    },
+    came(&[132, 145, 0, 100, 0, 100, 138, 7, 140, 0, 255]),
+    // Orders that were on the way when the link went are not given to the board.
+    Pass {
+        bytes: &[131, 145, 0, 100, 0, 100],
+        driver_gone: true,
+        ..NOTHING
+    },
+    Pass {
+        damage: true,
+        ..NOTHING
+    },
+    came(&[128, 131, 137, 0, 100, 127, 255]),
+    Pass {
+        driver_gone: true,
+        ..NOTHING
+    },
 ];
 
 struct Firmware {
     board: State,
-    /// What the sensors say; a real one reads them before each call.
+    /// What the sensors say; a real one reads them on each pass.
     image: [u8; IMAGE_SIZE],
     /// Long enough for any answer, so that no call gives 7.
     buffer: [u8; LONGEST_ANSWER],
@@ -57,28 +85,31 @@ impl Firmware {
         }
     }
 
-    fn handle(&mut self, event: &Event) {
-        match *event {
-            Event::Bytes(bytes) => self.read(bytes),
-            Event::Sensors(drop, cliff, charger) => {
-                let number = self.board.safety_report(drop, cliff, charger);
-                self.act_on("report", number, 0);
-            }
-            Event::Tick => {
-                let reply = self.board.tick(&self.image, &mut self.buffer);
-                self.act_on("tick", reply.number, reply.length);
-            }
-            Event::SongEnd => {
-                let number = self.board.song_end();
-                self.act_on("song end", number, 0);
-            }
-            Event::LinkLost => self.stop(),
-            Event::Damage => self.board.mode = 77,
+    /// Bytes, the report, the song, a chunk, and then the motors: once, and behind the
+    /// report, so that no order turns a wheel which the report stops.
+    fn pass(&mut self, found: &Pass) {
+        if found.damage {
+            self.board.mode = 77;
         }
+        if found.driver_gone {
+            self.stop();
+        } else {
+            self.read(found.bytes);
+        }
+        let (drop, cliff, charger) = found.sensors;
+        let number = self.board.safety_report(drop, cliff, charger);
+        self.act_on("report", number, 0);
+        if found.song_ended {
+            let number = self.board.song_end();
+            self.act_on("song end", number, 0);
+        }
+        let reply = self.board.tick(&self.image, &mut self.buffer);
+        self.act_on("tick", reply.number, reply.length);
+        self.set_motors();
     }
 
-    /// Gives bytes to the board, frame by frame: the motors are set, and an answer is
-    /// sent, before the next frame is read.
+    /// Gives bytes to the board, frame by frame: an answer is sent before the next frame
+    /// is read.
     fn read(&mut self, bytes: &[u8]) {
         let mut left = bytes;
         while !left.is_empty() {
@@ -93,10 +124,8 @@ impl Firmware {
         }
     }
 
-    /// What to do with each number. The motors come first: a stop must not wait for the
-    /// line.
+    /// What to do with each number.
     fn act_on(&mut self, call: &str, number: u8, length: usize) {
-        self.set_motors();
         match number {
             DONE if length > 0 => send(self.buffer.get(..length).unwrap_or_default()),
             DONE | WAITING => {}
@@ -117,9 +146,10 @@ impl Firmware {
         self.board = State::power_on();
     }
 
-    /// 511 bytes 128, whatever is half read.
+    /// 511 bytes 128, whatever is half read. What the line still holds is thrown away: an
+    /// old order would move the robot once more.
     fn stop(&mut self) {
-        println!("link lost");
+        println!("  the driver is gone");
         let number = if self.board.stop(&self.image) {
             DONE
         } else {
@@ -128,11 +158,12 @@ impl Firmware {
         self.act_on("stop", number, 0);
     }
 
-    /// Hands the record's orders to the motor stage, after each call.
-    fn set_motors(&self) {
-        // The orders of a bad record are not to be trusted; the number 8 does the rest.
+    /// Brings the motors to what the record says: a call that stops them does so in the
+    /// record alone.
+    fn set_motors(&mut self) {
+        // The orders of a record that was hit since the last call are not to be trusted.
         if !self.board.accepts() {
-            return;
+            self.restart("motors", BAD_RECORD);
         }
         let speeds = self.board.wheel_speeds();
         let (mode, duties) = (self.board.mode, self.board.motors.duties);
@@ -159,9 +190,9 @@ fn log(call: &str, number: u8, what: &str) {
 
 fn main() {
     let mut firmware = Firmware::new();
-    for (turn, event) in EVENTS.iter().enumerate() {
-        println!("event {turn}");
-        firmware.handle(event);
+    for (turn, found) in PASSES.iter().enumerate() {
+        println!("pass {turn}");
+        firmware.pass(found);
     }
     assert!(firmware.board.mode == PASSIVE && firmware.board.motors.are_off());
 }

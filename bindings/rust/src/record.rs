@@ -2,8 +2,9 @@
 //!
 //! It holds numbers alone, no bool and no enum, so that any bytes are a record,
 //! good or bad. The fields are open to be read, and to be stored and restored; a
-//! number that the board would not have left there makes a bad record, which every
-//! call answers with 8.
+//! number that the board could not have left there makes a bad record, which the
+//! board's calls answer with 8. A record that is restored may be one that drives:
+//! `State::stop` it before the motors are set. It has no check sum.
 
 use crate::numbers::NO_ORDER;
 
