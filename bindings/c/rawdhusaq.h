@@ -8,7 +8,9 @@
  * under "Pointers".
  *
  * THE BOARD HAS NO CLOCK. It does not stop because a host falls silent. Firmware that sees the
- * link drop feeds it 511 bytes 128 (see board_run), or cuts the motors itself.
+ * link drop feeds it 511 bytes 128 (see board_run), and where that gives an 8 cuts the motors and
+ * calls board_power_on. To cut the motors alone is not enough: the order stays in the record.
+ * The board only writes down what the motors are to do: firmware turns them and stops them.
  *
  * Pointers. A record, an image, a message, bytes and a buffer are lent for the time of a call.
  * - None may be null, and a record or message is aligned as its type is (8 and 2 bytes). The
@@ -27,6 +29,10 @@
  * memset alone. Two boards are two records; two threads may call at once on different records. */
 #ifndef Rawdhusaq_h
 #define Rawdhusaq_h
+
+#if !(defined __linux__ && defined __x86_64__ && defined __LP64__)
+#error "the archive that this header is for is made for Linux on x86-64 alone"
+#endif
 
 #include <stddef.h>
 #include <stdint.h>
@@ -145,7 +151,8 @@ typedef struct {
 
 /* ---- A message for host_write, in flat fields. a, b and c are data bytes as they are sent:
  *   129, 136, 138, 141, 142, 147, 150, 151    a (of a 136, -1 is 255)
- *   139, 144                                  a, b, c
+ *   139                                       a, b, c
+ *   144                                       a, b, c: of drivers 2, 1, 0, as they are sent
  *   140                                       a the song's number, b its length in notes
  *   148, 149                                  a the count of ids
  * What is not among a command's data is ignored. */
@@ -206,7 +213,8 @@ extern "C" {
 #endif
 
 /* The record at power-on, whatever stood there: Off, motors off, nothing half read. Call it once
- * before any other call, and again after an 8. */
+ * before any other call, and again after an 8. A record of zeros, as every static one is, is not a
+ * powered-on one (its baud code is 0), and is not answered with 8. */
 void board_power_on(RawdhusaqState *state);
 
 /* One byte from the line. 9 until a frame is complete; then the command's number, with its effect
@@ -251,9 +259,9 @@ uint8_t board_same(const RawdhusaqState *a, const RawdhusaqState *b);
 RawdhusaqReply host_write(const RawdhusaqMessage *message, uint8_t *buffer, size_t room);
 
 /* The speed of each wheel for a wheel order: a record's motors.order, motors.first, motors.second.
- * Each is the nearest whole number to the curve's, halves away from zero, and at most 500 either
- * way. The order of a record that board_accepts takes is never refused, and in Off and Passive both
- * wheels stand. */
+ * Above 0 is forwards. Each is the nearest whole number to the curve's, halves away from zero, and
+ * at most 500 either way; the curve is that of wheel centres 258 mm apart. The order of a record
+ * that board_accepts takes is never refused, and in Off and Passive both wheels stand. */
 RawdhusaqWheelSpeeds wheel_speeds(uint8_t kind, int16_t first, int16_t second);
 
 #ifdef __cplusplus
