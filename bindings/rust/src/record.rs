@@ -2,8 +2,8 @@
 //!
 //! It holds numbers alone, no bool and no enum, so that any bytes are a record,
 //! good or bad. The fields are open to be read, and to be stored and restored; a
-//! number that the board could not have left there makes a bad record, which the
-//! board's calls answer with 8. A record that is restored may be one that drives:
+//! number outside its range makes a bad record, which the board's calls answer with
+//! 8, and any other change is taken. A record that is restored may be one that drives:
 //! `State::stop` it before the motors are set. It has no check sum.
 
 use crate::numbers::NO_ORDER;

@@ -5,9 +5,9 @@ use mathlib.Core.Bool.{true, not}
 use Prim.Native.Nat.{ℕ, _<_}
 use native.Mathlib.Omega.{arith}
 use borrow.Author.Tests.{ne-eqb}
-use Rattle.firmware.specs.Border.{isSet, toldAs, BorderRight}
+use Rattle.firmware.specs.Border.{flagSet, toldAs, BorderRight}
 
-set : (flag : ℕ) → 0 < flag → isSet flag ≡ true
+set : (flag : ℕ) → 0 < flag → flagSet flag ≡ true
 set flag h = ap not (ne-eqb flag 0 (λ (e : flag ≡ 0). omega arith))
 
 pub border-right : BorderRight

@@ -8,8 +8,8 @@ use Rattle.drive.specs.declared.Speeds.{Speeds}
 use Rattle.firmware.specs.declared.WheelSpeeds.{WheelSpeeds}
 
 -- a flag that is handed in: 0 clear, any other number set
-abbrev pub isSet : ℕ → Bool
-isSet flag = not (eqb flag 0)
+abbrev pub flagSet : ℕ → Bool
+flagSet flag = not (eqb flag 0)
 
 -- a flag that is handed out: 1 yes, 0 no
 abbrev pub flagOf : Bool → ℕ
@@ -21,8 +21,8 @@ toldAs s = record { number = s .number; right = s .right; left = s .left; capped
 
 -- THEOREM: a flag is the same on both sides, and wheel speeds are as `drive` gives them
 pub record BorderRight : Type 0 where
-  pub clear : isSet 0 ≡ false
-  pub set : (flag : ℕ) → 0 < flag → isSet flag ≡ true
+  pub clear : flagSet 0 ≡ false
+  pub set : (flag : ℕ) → 0 < flag → flagSet flag ≡ true
   pub yes : flagOf true ≡ 1
   pub no : flagOf false ≡ 0
   pub same-number : (s : Speeds) → toldAs s .number ≡ s .number

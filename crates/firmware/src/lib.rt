@@ -17,7 +17,7 @@ ghost use Rattle.state.specs.Same.{sameState};
 ghost use Rattle.board.specs.Outcome.{answered, written};
 ghost use Rattle.board.specs.Calls.{byteOf, reportOf, tickOf, songEndOf, runOf, ranAs};
 ghost use Rattle.drive.specs.Orders.{speedsOf};
-ghost use Rattle.firmware.specs.Border.{isSet, flagOf, toldAs};
+ghost use Rattle.firmware.specs.Border.{flagSet, flagOf, toldAs};
 use command::Fields;
 use state::State;
 use steps::flag_of;
@@ -97,8 +97,8 @@ pub extern "C" fn board_run(
 // that what comes back is the number.
 #[no_mangle]
 pub extern "C" fn board_safety_report(state: &mut State, drop: u8, cliff: u8, charger: u8) -> u8
-    ensures { λ r. ⌜ (now (state .exit) ≡ answered (reportOf (now (state .entry)) (isSet drop) (isSet cliff) (isSet charger)) .state)
-        × (r ≡ answered (reportOf (now (state .entry)) (isSet drop) (isSet cliff) (isSet charger)) .number) ⌝ }
+    ensures { λ r. ⌜ (now (state .exit) ≡ answered (reportOf (now (state .entry)) (flagSet drop) (flagSet cliff) (flagSet charger)) .state)
+        × (r ≡ answered (reportOf (now (state .entry)) (flagSet drop) (flagSet cliff) (flagSet charger)) .number) ⌝ }
 {
     let a = steps::report(*state, drop, cliff, charger);
     *state = a.state;

@@ -9,7 +9,7 @@ ghost use Rattle.state.specs.Accepted.{acceptedOf};
 ghost use Rattle.state.specs.Same.{sameState};
 ghost use Rattle.board.specs.Outcome.{answered};
 ghost use Rattle.board.specs.Calls.{reportOf};
-ghost use Rattle.firmware.specs.Border.{isSet, flagOf};
+ghost use Rattle.firmware.specs.Border.{flagSet, flagOf};
 use board::Answer;
 use command::Fields;
 use state::State;
@@ -24,7 +24,7 @@ pub fn flag_of(b: bool) -> u8
 
 // A safety report whose flags are numbers.
 pub fn report(state: State, drop: u8, cliff: u8, charger: u8) -> Answer
-    ensures { λ r. ⌜ r ≡ answered (reportOf state (isSet drop) (isSet cliff) (isSet charger)) ⌝ }
+    ensures { λ r. ⌜ r ≡ answered (reportOf state (flagSet drop) (flagSet cliff) (flagSet charger)) ⌝ }
 {
     board::safety_report(state, drop != 0, cliff != 0, charger != 0)
 }

@@ -40,7 +40,7 @@ use denote.Exit.{yes}
 use denote.Struct.Laws as LL
 use Rattle.board.specs.Outcome.{answered}
 use Rattle.board.specs.Calls.{reportOf}
-use Rattle.firmware.specs.Border.{isSet}
+use Rattle.firmware.specs.Border.{flagSet}
 use Rattle.state.specs.declared.State.{State}
 use Rattle.board.specs.declared.Answer.{Answer}
 use Rattle.state.proofs.State as State-t
@@ -90,7 +90,7 @@ module _ {M : Type 1} (𝓤 : URA M) (H : Heap 𝓤) (A : Atoms 𝓤) (W : Given
 
   -- what the callee ensures
   abbrev Said : Answer → Type 0
-  Said r = r ≡ answered (reportOf the-state (isSet the-drop) (isSet the-cliff) (isSet the-charger))
+  Said r = r ≡ answered (reportOf the-state (flagSet the-drop) (flagSet the-cliff) (flagSet the-charger))
 
   abbrev Post : Val → SProp 𝓤
   Post = walkOf 𝓤 H A self.ended stayed (self.clauses 𝓤 H A at-mem run) .post (((κ₀, tt), (q₀, tt), tt, x, at), tt)
