@@ -15,9 +15,9 @@ use Rattle.frame.specs.Reach.{isArray, reachableOf}
 use Rattle.frame.specs.declared.Partial.{Partial}
 use Rattle.frame.proofs.PushLaws.{next-complete, next-more}
 use Rattle.frame.proofs.ReachLaws.{empty-reachable}
-use Rattle.frame.proofs.CutProved.{every-push, run-of-128s}
+use Rattle.frame.proofs.CutProved.{every-push, run-table-right}
 use Rattle.command.specs.Layout.{decodeOf}
-use Rattle.command.specs.Commands.{DecodeTells}
+use Rattle.command.specs.Commands.{DecodeFacts}
 use Rattle.command.specs.declared.Message.{Message}
 use Rattle.command.proofs.CommandsProved.{decoding-right}
 use Rattle.state.specs.State.{off, safe, withPartial, withPlaying, toPassive}
@@ -58,11 +58,11 @@ module _ (s : State) (b : ℕ) where
   messageOf = decodeOf (pushed .partial .bytes)
 
   pub takes-accepted : T (acceptedOf s) → b < 256 → T (acceptedOf takes)
-  takes-accepted t h = accepted-stays s t .partial-kept (nextOf (s .partial) b) (run-of-128s .stays-reachable (s .partial) b (accepted-reachable s t) h)
+  takes-accepted t h = accepted-stays s t .partial-kept (nextOf (s .partial) b) (run-table-right .stays-reachable (s .partial) b (accepted-reachable s t) h)
 
-  pub message-tells : T (acceptedOf s) → b < 256 → DecodeTells (pushed .partial .bytes)
+  pub message-facts : T (acceptedOf s) → b < 256 → DecodeFacts (pushed .partial .bytes)
   unfolding reachableOf
-  message-tells t h =
+  message-facts t h =
       decoding-right (pushed .partial .bytes)
       (every-push .stays-array (s .partial) b (and-yes (isArray (s .partial)) _ (accepted-reachable s t) .0) h)
 
@@ -126,7 +126,7 @@ module _ (s : State) (b : ℕ) where
 
     pub byte-accepted : T (acceptedOf s) → b < 256 → T (acceptedOf (byteOf s b image room .state))
     byte-accepted t h =
-        let m = message-tells t h in
+        let m = message-facts t h in
         let past = accepted-stays s t .partial-kept emptyPartial empty-reachable in
         byte-is (λ (o : Outcome). T (acceptedOf (o .state))) (λ d. absurd (subst T d t)) (λ u d. takes-accepted t h)
         (λ u d. judge-accepted (withPartial emptyPartial s) messageOf image room past (m .payload-array) (m .rest-zero))

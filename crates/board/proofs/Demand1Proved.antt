@@ -28,32 +28,32 @@ use Rattle.board.proofs.CallsLaws.{checked-bad, messageOf, takes-accept
 -- ---- what a call gives
 
 -- of every outcome: its number is one of these, 1 to 7 leave that record, an answer is given with 0 alone, and has room
-record Told (numbers : List ℕ) (left : State) (room : ℕ) (o : Outcome) : Type 0 where
+record OutcomeFacts (numbers : List ℕ) (left : State) (room : ℕ) (o : Outcome) : Type 0 where
   numbered : T (among numbers (o .number))
   leaves : 1 ≤ o .number → o .number ≤ 7 → o .state ≡ left
   silent : (o .number ≡ 0 → ⊥) → o .answer ≡ []
   fits : length (o .answer) ≤ room
 
 module _ {numbers : List ℕ} {left : State} {room : ℕ} where
-  gives-told : (n : ℕ) → T (among numbers n) → {x : State} → (1 ≤ n → n ≤ 7 → x ≡ left) → Told numbers left room (gives n x)
-  gives-told n t e = record { numbered = t; leaves = e; silent = λ h. refl; fits = zero-le }
+  gives-facts : (n : ℕ) → T (among numbers n) → {x : State} → (1 ≤ n → n ≤ 7 → x ≡ left) → OutcomeFacts numbers left room (gives n x)
+  gives-facts n t e = record { numbered = t; leaves = e; silent = λ h. refl; fits = zero-le }
 
   -- the record that 1 to 7 leave
-  same-told : (n : ℕ) → T (among numbers n) → Told numbers left room (gives n left)
-  same-told n t = gives-told n t (λ g h. refl)
+  same-facts : (n : ℕ) → T (among numbers n) → OutcomeFacts numbers left room (gives n left)
+  same-facts n t = gives-facts n t (λ g h. refl)
 
   -- 0, 8 and 9 leave any
-  other-told : (n : ℕ) → T (among numbers n) → T (not (within 1 7 n)) → {x : State} → Told numbers left room (gives n x)
-  other-told n t u = gives-told n t (λ g h. absurd (T-not (within 1 7 n) (yes-and (leb 1 n) (leb n 7) (yes-leb g) (yes-leb h)) u))
+  other-facts : (n : ℕ) → T (among numbers n) → T (not (within 1 7 n)) → {x : State} → OutcomeFacts numbers left room (gives n x)
+  other-facts n t u = gives-facts n t (λ g h. absurd (T-not (within 1 7 n) (yes-and (leb 1 n) (leb n 7) (yes-leb g) (yes-leb h)) u))
 
 -- numbers 0 to 9, of a byte and of a run
-abbrev ByteTold : State → ℕ → Outcome → Type 0
-ByteTold s room o = Told (fromTo 0 9) (withPartial emptyPartial s) room o
+abbrev ByteFacts : State → ℕ → Outcome → Type 0
+ByteFacts s room o = OutcomeFacts (fromTo 0 9) (withPartial emptyPartial s) room o
 
 module _ (image : List ℕ) (room : ℕ) where
-  byte-told : (s : State) (b : ℕ) → ByteTold s room (byteOf s b image room)
-  byte-told s b =
-      byte-is s b image room (ByteTold s room) (λ d. other-told 8 tt tt) (λ t d. other-told 9 tt tt)
+  byte-facts : (s : State) (b : ℕ) → ByteFacts s room (byteOf s b image room)
+  byte-facts s b =
+      byte-is s b image room (ByteFacts s room) (λ d. other-facts 8 tt tt) (λ t d. other-facts 9 tt tt)
       (λ t d.
       let e = withPartial emptyPartial s in
       let n = judgedAt s b image room .number in
@@ -66,22 +66,22 @@ module _ (image : List ℕ) (room : ℕ) where
         fits = judge-room e (messageOf s b) image room;
       })
 
-  run-told : (s : State) (bs : List ℕ) → ByteTold s room (runOf s bs image room .outcome)
-  run-told s bs =
-      run-is image room (λ (y : Performed). ByteTold s room (y .outcome)) s bs (λ d. other-told 8 tt tt)
+  run-facts : (s : State) (bs : List ℕ) → ByteFacts s room (runOf s bs image room .outcome)
+  run-facts s bs =
+      run-is image room (λ (y : Performed). ByteFacts s room (y .outcome)) s bs (λ d. other-facts 8 tt tt)
       (λ t.
-      feed-is image room (λ (x : State) (bs : List ℕ) (y : Performed). ByteTold x room (y .outcome)) (λ x. other-told 9 tt tt) (λ x b bs y e h. h)
-      (λ x b bs e. byte-told x b) s bs)
+      feed-is image room (λ (x : State) (bs : List ℕ) (y : Performed). ByteFacts x room (y .outcome)) (λ x. other-facts 9 tt tt) (λ x b bs y e h. h)
+      (λ x b bs e. byte-facts x b) s bs)
 
-told : (s : State) (c : Call) → Told (numbersOf c) (leftBy c s) (length (bufferOf c)) (outcome s c)
-told s (byte b image buffer) = byte-told image (length buffer) s b
-told s (run bs image buffer) = run-told image (length buffer) s bs
-told s (report dropped cliff charger) =
-    report-is (Told (0 ∷ 8 ∷ []) s 0) s dropped cliff charger (λ d. same-told 8 tt) (λ t. same-told 0 tt) (λ t. other-told 0 tt tt)
-told s (tick image buffer) =
-    tick-is (Told (0 ∷ 3 ∷ 7 ∷ 8 ∷ []) s (length buffer)) s image (length buffer) (λ d. same-told 8 tt) (λ e. same-told 3 tt) (same-told 0 tt)
-    (λ l. record { numbered = tt; leaves = λ g h. refl; silent = λ h. absurd (h refl); fits = l }) (λ m e l. same-told 7 tt)
-told s songEnd = song-end-is (Told (0 ∷ 8 ∷ []) s 0) s (λ d. same-told 8 tt) (λ t. other-told 0 tt tt)
+outcome-facts : (s : State) (c : Call) → OutcomeFacts (numbersOf c) (leftBy c s) (length (bufferOf c)) (outcome s c)
+outcome-facts s (byte b image buffer) = byte-facts image (length buffer) s b
+outcome-facts s (run bs image buffer) = run-facts image (length buffer) s bs
+outcome-facts s (report dropped cliff charger) =
+    report-is (OutcomeFacts (0 ∷ 8 ∷ []) s 0) s dropped cliff charger (λ d. same-facts 8 tt) (λ t. same-facts 0 tt) (λ t. other-facts 0 tt tt)
+outcome-facts s (tick image buffer) =
+    tick-is (OutcomeFacts (0 ∷ 3 ∷ 7 ∷ 8 ∷ []) s (length buffer)) s image (length buffer) (λ d. same-facts 8 tt) (λ e. same-facts 3 tt) (same-facts 0 tt)
+    (λ l. record { numbered = tt; leaves = λ g h. refl; silent = λ h. absurd (h refl); fits = l }) (λ m e l. same-facts 7 tt)
+outcome-facts s songEnd = song-end-is (OutcomeFacts (0 ∷ 8 ∷ []) s 0) s (λ d. same-facts 8 tt) (λ t. other-facts 0 tt tt)
 
 -- ---- 8
 
@@ -132,7 +132,7 @@ Taken s bs y = y .outcome .number ≡ 9 → (y .outcome .state ≡ withPartial (
 
 -- a number that the call does not give
 never : (s : State) (c : Call) (n : ℕ) → among (numbersOf c) n ≡ false → outcome s c .number ≡ n → ⊥
-never s c n f e = subst T (ap (among (numbersOf c)) e ∙ f) (told s c .numbered)
+never s c n f e = subst T (ap (among (numbersOf c)) e ∙ f) (outcome-facts s c .numbered)
 
 taken : (s : State) (c : Call) → Taken s (bytesOf c) (perform s c)
 taken s (byte b image buffer) e =
@@ -175,15 +175,15 @@ demand-1 =
     record {
       given-back = given-back;
       as-cited = as-cited;
-      numbers-given = λ s c. told s c .numbered;
+      numbers-given = λ s c. outcome-facts s c .numbered;
       bad-eight = bad-eight;
       eight-bad = λ s c t u. stays s c t u .0;
-      length-zero = λ s c h. ap (λ (l : List ℕ). length l) (told s c .silent h);
-      buffer-kept = λ s c h. ap (λ (l : List ℕ). overwrite l (bufferOf c)) (told s c .silent h);
-      read-past = λ s c. told s c .leaves;
+      length-zero = λ s c h. ap (λ (l : List ℕ). length l) (outcome-facts s c .silent h);
+      buffer-kept = λ s c h. ap (λ (l : List ℕ). overwrite l (bufferOf c)) (outcome-facts s c .silent h);
+      read-past = λ s c. outcome-facts s c .leaves;
       bytes-taken = λ s c e. taken s c e .0;
       all-read = λ s c e. taken s c e .1;
-      room-enough = λ s c. told s c .fits;
+      room-enough = λ s c. outcome-facts s c .fits;
       answer-there = λ s c. take-append-seam (outcome s c .answer) (drop (length (outcome s c .answer)) (bufferOf c));
       rest-kept = λ s c. drop-append-seam (outcome s c .answer) (drop (length (outcome s c .answer)) (bufferOf c));
       stays-accepted = λ s c t u. stays s c t u .1;

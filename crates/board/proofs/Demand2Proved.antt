@@ -9,7 +9,7 @@ use Rattle.wire.proofs.ListsLaws.{same-list}
 use Rattle.frame.specs.FrameTable.{dataLength}
 use Rattle.frame.specs.Push.{bodySizeAs}
 use Rattle.frame.specs.Reach.{reachableOf}
-use Rattle.frame.proofs.CutProved.{cut-in-numbers, cut-by-table, stored-as-sent, complete-exactly, reachable-exact, run-of-128s}
+use Rattle.frame.proofs.CutProved.{cut-in-numbers, cut-by-table, stored-as-sent, complete-exactly, reachable-exact, run-table-right}
 use Rattle.packet.specs.SizeTable.{sizeOf, startOf, groupOf, packetsOf}
 use Rattle.packet.specs.Packets.{sensorBytes, packetIn, dataIn, itemsIn, answerBytes, checksumOf, counted, chunkOf, chunkBytes}
 use Rattle.packet.specs.Answers.{listableOf, streamableOf}
@@ -49,7 +49,7 @@ demand-2 =
       stored-as-sent = stored-as-sent;
       complete-exactly = complete-exactly;
       held-exactly = reachable-exact;
-      run-table = run-of-128s;
+      run-table = run-table-right;
       command-table = commands-in-numbers;
       modes = mode-column;
       legal-data = data-column;

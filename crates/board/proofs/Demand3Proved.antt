@@ -17,13 +17,13 @@ use Rattle.wire.proofs.ListsLaws.{getD-any, all-front}
 use Rattle.frame.specs.FrameTable.{dataLength}
 use Rattle.frame.specs.Push.{Pushed, bodySizeAs, pushOf, emptyPartial, nextOf, afterOf, opcodes, completed}
 use Rattle.frame.specs.Reach.{reachableOf}
-use Rattle.frame.specs.RunTable.{waits}
+use Rattle.frame.specs.RunTable.{untilOpcode}
 use Rattle.frame.specs.Cut.{longSong}
 use Rattle.frame.specs.declared.Partial.{Partial}
 use Rattle.frame.proofs.PushLaws.{push-skipped, next-more}
 use Rattle.frame.proofs.ReachLaws.{empty-is}
-use Rattle.frame.proofs.RunTableLaws.{waits-le}
-use Rattle.frame.proofs.CutProved.{run-of-128s, remaining-needed}
+use Rattle.frame.proofs.RunTableLaws.{until-opcode-le}
+use Rattle.frame.proofs.CutProved.{run-table-right, remaining-needed}
 use Rattle.command.specs.Layout.{commandOf, decodeOf}
 use Rattle.packet.specs.SizeTable.{sizeOf, groupOf}
 use Rattle.packet.specs.Answers.{listableOf, streamableOf}
@@ -37,7 +37,7 @@ use Rattle.board.specs.Outcome.{Outcome, gives}
 use Rattle.board.specs.Judge.{judgeOf}
 use Rattle.board.specs.Calls.{fedOf, byteOf, Performed, feed, runOf, Call, byte, run, Board, perform, afterBy, after, bytesIn, bytesBy, bytesRead, Reading, reading, outcomeAt, readingsOf, readingsIn, readings, numbers, idle}
 use Rattle.board.specs.Shown.{doesNothing, firstByteOnly}
-use Rattle.board.specs.Demand3.{noReading, lastNumber, CountsAgree, IdleTells, Told, All128, EndsIdle, longest, calls128, Demand3}
+use Rattle.board.specs.Demand3.{noReading, lastNumber, CountsAgree, IdleFacts, RunOf128s, All128, EndsIdle, longest, calls128, Demand3}
 use Rattle.board.proofs.JudgeLaws.{judge-illegal, judge-start}
 use Rattle.board.proofs.CallsLaws.{accepted-reachable, messageOf, byte-is, byte-waits, byte-judged, byte-next, byte-ends, takes-accepted, byte-accepted, feed-is, run-is}
 use Rattle.board.proofs.ListsOfCallsLaws.{Fed, none, more, last, reads-one, first-fed, bytesAt, same-bytes, same-count, Quiet, same, stopped, silent, quiet-partial, read-bytes, read-count, Course, over, quiet, reads, course, cut}
@@ -118,35 +118,35 @@ all-128 (b ∷ bs) t =
     ap₂ (λ (n : ℕ) (l : List ℕ). n ∷ l) (eqb→eq b 128 (s .0)) (all-128 bs (s .1))
 
 -- what k of them leave waits for k less
-run-waits : (k : ℕ) (p : Partial) → T (reachableOf p) → waits (afterOf p (replicate k 128)) ≡ waits p - k
-run-waits zero p r = omega arith
-run-waits (suc k) p r =
-    run-waits k (nextOf p 128) (run-of-128s .stays-reachable p 128 r (omega arith)) ∙ omega (arith, run-of-128s .one-less p r)
+run-until-opcode : (k : ℕ) (p : Partial) → T (reachableOf p) → untilOpcode (afterOf p (replicate k 128)) ≡ untilOpcode p - k
+run-until-opcode zero p r = omega arith
+run-until-opcode (suc k) p r =
+    run-until-opcode k (nextOf p 128) (run-table-right .stays-reachable p 128 r (omega arith)) ∙ omega (arith, run-table-right .one-less p r)
 
 -- where nothing is waited for nothing is held
-nothing-held : (p : Partial) → T (reachableOf p) → waits p ≡ 0 → p ≡ emptyPartial
+nothing-held : (p : Partial) → T (reachableOf p) → untilOpcode p ≡ 0 → p ≡ emptyPartial
 nothing-held p r e =
-    let b = run-of-128s .opcode-at 1 0 p r (omega arith) ∙ le-leb (waits p) 0 (omega arith) in
+    let b = run-table-right .opcode-at 1 0 p r (omega arith) ∙ le-leb (untilOpcode p) 0 (omega arith) in
     empty-is p r (eqb-true (p .count) 0 (both (eqb (p .remaining) 0) (eqb (p .count) 0) b .1))
 
-waits-nothing : waits emptyPartial ≡ 0
-unfolding waits
-waits-nothing = refl
+until-opcode-nothing : untilOpcode emptyPartial ≡ 0
+unfolding untilOpcode
+until-opcode-nothing = refl
 
 -- ---- a 128
 
 module _ (s : State) (t : T (acceptedOf s)) (image : List ℕ) (room : ℕ) where
-  gives-nine : 1 < waits (s .partial) → byteOf s 128 image room .number ≡ 9
+  gives-nine : 1 < untilOpcode (s .partial) → byteOf s 128 image room .number ≡ 9
   gives-nine h =
-      let e = run-of-128s .completes (s .partial) (accepted-reachable s t) ∙ lt-leb (waits (s .partial)) 1 h in
+      let e = run-table-right .completes (s .partial) (accepted-reachable s t) ∙ lt-leb (untilOpcode (s .partial)) 1 h in
       ap (λ (o : Outcome). o .number) (byte-waits s 128 image room t e)
 
-  is-judged : waits (s .partial) ≤ 1
+  is-judged : untilOpcode (s .partial) ≤ 1
       → byteOf s 128 image room ≡ judgeOf (withPartial emptyPartial s) (decodeOf (pushOf (s .partial) 128 .partial .bytes)) image room
-  is-judged h = byte-judged s 128 image room t (run-of-128s .completes (s .partial) (accepted-reachable s t) ∙ le-leb (waits (s .partial)) 1 h)
+  is-judged h = byte-judged s 128 image room t (run-table-right .completes (s .partial) (accepted-reachable s t) ∙ le-leb (untilOpcode (s .partial)) 1 h)
 
   -- a Start
-  starts : waits (s .partial) ≡ 0 → byteOf s 128 image room ≡ gives 0 (toPassive (withPartial emptyPartial s))
+  starts : untilOpcode (s .partial) ≡ 0 → byteOf s 128 image room ≡ gives 0 (toPassive (withPartial emptyPartial s))
   unfolding dataLength bodySizeAs commandOf decodeOf
   starts e =
       is-judged (omega arith)
@@ -200,9 +200,9 @@ idle-so : (s : State) → Idle s → T (idle s)
 unfolding idle
 idle-so s i = to-T (idle s) (simp (eq-eqb (s .mode) 1 (i .passive), i .nothing, i .off))
 
-idle-tells : (s : State) → T (idle s) → IdleTells s
+idle-facts : (s : State) → T (idle s) → IdleFacts s
 unfolding idle
-idle-tells s t =
+idle-facts s t =
     let a = and-yes (eqb (s .mode) 1) (eqb (s .partial .count) 0 && (eqb (s .partial .remaining) 0 && motorsOff (s .motors))) t in
     let b = and-yes (eqb (s .partial .count) 0) (eqb (s .partial .remaining) 0 && motorsOff (s .motors)) (a .1) in
     let d = and-yes (eqb (s .partial .remaining) 0) (motorsOff (s .motors)) (b .1) in
@@ -216,7 +216,7 @@ idle-tells s t =
     }
 
 -- by a Start
-start-idle : (s : State) (b : ℕ) (image : List ℕ) (room : ℕ) → T (acceptedOf s) → b ≡ 128 → waits (s .partial) ≡ 0 → Idle (byteOf s b image room .state)
+start-idle : (s : State) (b : ℕ) (image : List ℕ) (room : ℕ) → T (acceptedOf s) → b ≡ 128 → untilOpcode (s .partial) ≡ 0 → Idle (byteOf s b image room .state)
 start-idle s b image room t e w =
     let o = ap (λ (n : ℕ). byteOf s n image room) e ∙ starts s t image room w in
     record {
@@ -239,19 +239,19 @@ stays-idle t s rs (quiet {u = u} q c) h i = stays-idle t u rs c h (quiet-idle s 
 stays-idle t s rs (reads {rs = ms} b image room w c) h i =
     let f = first-128 (reading s b image room) ms h in
     stays-idle t (byteOf s b image room .state) ms c (f .1)
-    (start-idle s b image room (i .accepted) (f .0) (ap waits (i .nothing) ∙ waits-nothing))
+    (start-idle s b image room (i .accepted) (f .0) (ap untilOpcode (i .nothing) ∙ until-opcode-nothing))
 
-becomes-idle : (t s : State) (rs : List Reading) → Course t s rs → T (acceptedOf s) → Reads128 rs → waits (s .partial) < length rs → Idle t
+becomes-idle : (t s : State) (rs : List Reading) → Course t s rs → T (acceptedOf s) → Reads128 rs → untilOpcode (s .partial) < length rs → Idle t
 becomes-idle t s rs over a h l = absurd (omega arith)
 becomes-idle t s rs (quiet {u = u} q c) a h l =
-    becomes-idle t u rs c (quiet-accepted s u q a) h (omega (arith, ap waits (quiet-partial s u q)))
+    becomes-idle t u rs c (quiet-accepted s u q a) h (omega (arith, ap untilOpcode (quiet-partial s u q)))
 becomes-idle t s rs (reads {rs = ms} b image room w c) a h l =
     let f = first-128 (reading s b image room) ms h in
-    ⊎-elim (λ (e : waits (s .partial) ≡ 0). stays-idle t (byteOf s b image room .state) ms c (f .1) (start-idle s b image room a (f .0) e))
-    (λ (p : 0 < waits (s .partial)).
-    let e = ap waits (byte-next s b image room a ∙ ap (nextOf (s .partial)) (f .0)) ∙ run-of-128s .one-less (s .partial) (accepted-reachable s a) in
+    ⊎-elim (λ (e : untilOpcode (s .partial) ≡ 0). stays-idle t (byteOf s b image room .state) ms c (f .1) (start-idle s b image room a (f .0) e))
+    (λ (p : 0 < untilOpcode (s .partial)).
+    let e = ap untilOpcode (byte-next s b image room a ∙ ap (nextOf (s .partial)) (f .0)) ∙ run-table-right .one-less (s .partial) (accepted-reachable s a) in
     becomes-idle t (byteOf s b image room .state) ms c (byte-accepted s b image room a (omega (arith, f .0))) (f .1) (omega arith))
-    (eq-zero-or-pos (waits (s .partial)))
+    (eq-zero-or-pos (untilOpcode (s .partial)))
 
 -- ---- what is told
 
@@ -268,7 +268,7 @@ module _ (s : State) (t : T (acceptedOf s)) where
   reads-128 : (cs : List Call) → All128 (bytesRead s cs) → Reads128 (readings s cs)
   reads-128 cs h = subst (λ (l : List ℕ). T (all is128 l)) (sym (read-bytes cs s)) h
 
-  idle-once : (cs : List Call) → All128 (bytesRead s cs) → waits (s .partial) < length (bytesRead s cs) → T (idle (after s cs))
+  idle-once : (cs : List Call) → All128 (bytesRead s cs) → untilOpcode (s .partial) < length (bytesRead s cs) → T (idle (after s cs))
   idle-once cs h l =
       idle-so (after s cs) (becomes-idle (after s cs) s (readings s cs) (course cs s) t (reads-128 cs h) (omega (arith, read-count cs s)))
 
@@ -291,32 +291,32 @@ module _ (s : State) (t : T (acceptedOf s)) where
           ∙ List·getD-map (λ r. outcomeAt r .number) (readings s cs) k noReading
           ∙ ap (λ (b : ℕ). byteOf (at k .state) b (at k .image) (at k .room) .number) (known .is-128)
 
-      waits-at : waits (at k .state .partial) ≡ waits (s .partial) - k
-      waits-at = ap waits (known .held) ∙ run-waits k (s .partial) reachable
+      until-opcode-at : untilOpcode (at k .state .partial) ≡ untilOpcode (s .partial) - k
+      until-opcode-at = ap untilOpcode (known .held) ∙ run-until-opcode k (s .partial) reachable
 
-    told : Told s cs
-    told =
+    run-of-128s : RunOf128s s cs
+    run-of-128s =
         record {
           opcode-at = λ k l.
               ap (λ (bs : List ℕ). getD (opcodes (s .partial) bs) k false) (all-128 (bytesRead s cs) h)
-              ∙ run-of-128s .opcode-at (length (bytesRead s cs)) k (s .partial) reachable l;
+              ∙ run-table-right .opcode-at (length (bytesRead s cs)) k (s .partial) reachable l;
           before-nine = λ k a l.
-              number-at k l 0 ∙ gives-nine (at k .state) (known k l .accepted) (at k .image) (at k .room) (omega (arith, waits-at k l));
+              number-at k l 0 ∙ gives-nine (at k .state) (known k l .accepted) (at k .image) (at k .room) (omega (arith, until-opcode-at k l));
           last-ends = λ k e l.
               number-at k l 0
-              ∙ ap (λ (o : Outcome). o .number) (is-judged (at k .state) (known k l .accepted) (at k .image) (at k .room) (omega (arith, waits-at k l)))
+              ∙ ap (λ (o : Outcome). o .number) (is-judged (at k .state) (known k l .accepted) (at k .image) (at k .room) (omega (arith, until-opcode-at k l)))
               ∙ ap (λ (p : Partial). judgeOf (withPartial emptyPartial (at k .state)) (decodeOf (pushOf p 128 .partial .bytes)) (at k .image) (at k .room) .number)
               (known k l .held);
           then-zero = λ k a l.
               number-at k l 9
-              ∙ ap (λ (o : Outcome). o .number) (starts (at k .state) (known k l .accepted) (at k .image) (at k .room) (omega (arith, waits-at k l)));
+              ∙ ap (λ (o : Outcome). o .number) (starts (at k .state) (known k l .accepted) (at k .image) (at k .room) (omega (arith, until-opcode-at k l)));
           idle-after = λ first rest e l.
               let all = subst (λ (bs : List ℕ). T (all is128 bs)) (ap (bytesRead s) e ∙ read-append first rest s) h in
               idle-once first (all-front is128 (bytesRead s first) (bytesRead (after s first) rest) all) l;
         }
 
 ends-idle : EndsIdle perform
-ends-idle s t cs h l = idle-once s t cs h (omega (arith, waits-le (s .partial) (accepted-reachable s t)))
+ends-idle s t cs h l = idle-once s t cs h (omega (arith, until-opcode-le (s .partial) (accepted-reachable s t)))
 
 -- ---- the least
 
@@ -370,7 +370,7 @@ more-than-510 s m e cs t =
     let x = getD (s .partial .bytes) 1 0 in
     let i : InSong x 510 s = record { in-full = m; song = λ h a. remaining-needed .only-song (s .partial) (accepted-reachable s a) e } in
     let f = song-full x 510 (after s cs) s (readings s cs) (course cs s) i (omega (arith, read-count cs s)) in
-    let p = idle-tells (after s cs) t .in-passive in
+    let p = idle-facts (after s cs) t .in-passive in
     absurd (omega arith))
     (λ l. l)
     (le-or-lt (length (bytesRead s cs)) 510)
@@ -429,13 +429,13 @@ not-with-510 image buffer =
 pub demand-3 : Demand3
 demand-3 =
     record {
-      idle-tells = idle-tells;
+      idle-facts = idle-facts;
       counts-agree = counts-agree;
       cut = cut;
       ends-idle = ends-idle;
       does-nothing-not = never-idle doesNothing (computed .1 .0);
       first-byte-not = never-idle firstByteOnly (computed .1 .1);
-      told = told;
+      run-of-128s = run-of-128s;
       least = λ s m e cs t. let l = more-than-510 s m e cs t in omega arith;
       longest-accepted = longest-accepted;
       longest-mode = refl;

@@ -20,9 +20,9 @@ unfolding isIn isLegal rowOf legalOf
 pause-on p = tt
 
 module _ (n : ℕ) (p : List ℕ) where
-  pub play-number : legalOf (message (cmd.Play n) p) ≡ true → n < 16
+  pub play-song : legalOf (message (cmd.Play n) p) ≡ true → n < 16
   unfolding legalOf rowOf
-  play-number e = let h = leb-true n 15 (byte-legal 15 n ∙ e) in omega arith
+  play-song e = let h = leb-true n 15 (byte-legal 15 n ∙ e) in omega arith
 
   pub sensors-listable : legalOf (message (cmd.Sensors n) p) ≡ true → listableOf (n ∷ []) ≡ true
   unfolding legalOf rowOf listableOf

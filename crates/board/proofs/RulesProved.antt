@@ -20,7 +20,7 @@ use Rattle.wire.proofs.BoolLaws.{is-true, both, beq-eq, le-or-lt, pos-eqb, cond
 use Rattle.wire.proofs.ListsLaws.{from}
 use Rattle.frame.specs.FrameTable.{dataLength}
 use Rattle.frame.specs.Push.{bodySizeAs, emptyPartial}
-use Rattle.frame.specs.RunTable.{waits}
+use Rattle.frame.specs.RunTable.{untilOpcode}
 use Rattle.frame.specs.Reach.{reachableOf}
 use Rattle.frame.specs.declared.Partial.{Partial}
 use Rattle.packet.specs.Packets.{answerBytes}
@@ -60,7 +60,7 @@ effect-column p =
       safe = does cmd.Safe p refl refl;
       full = does cmd.Full p refl refl;
       power = does cmd.Power p refl refl;
-      demo = λ number. does (cmd.Demo number) p refl refl;
+      demo = λ demo. does (cmd.Demo demo) p refl refl;
       spot = does cmd.Spot p refl refl;
       cover = does cmd.Cover p refl refl;
       dock = does cmd.Dock p refl refl;
@@ -71,7 +71,7 @@ effect-column p =
       leds = λ a b d. does (cmd.Leds a b d) p refl refl;
       outputs = λ bits. does (cmd.Outputs bits) p refl refl;
       infrared = λ code. does (cmd.Infrared code) p refl refl;
-      song = λ number notes. does (cmd.Song number notes) p refl refl;
+      song = λ song notes. does (cmd.Song song notes) p refl refl;
       stream = λ ids. does (cmd.Stream ids) p refl refl;
       pause-off = does (cmd.Pause 0) p refl refl;
       pause-on = does (cmd.Pause 1) p refl refl;
@@ -326,9 +326,9 @@ module _ (s : State) (t : T (acceptedOf s)) (e : s .partial ≡ emptyPartial) (i
   unfolding dataLength bodySizeAs
   opcode-waits = byte-right s t 136 image room .waits (rw e refl) ∙ rw e refl
 
-  number : (b : ℕ) → b < 256 → byteOf (withPartial demoHeld s) b image room ≡ demoGives b s
+  demo-byte : (b : ℕ) → b < 256 → byteOf (withPartial demoHeld s) b image room ≡ demoGives b s
   unfolding dataLength commandOf decodeOf
-  number b h =
+  demo-byte b h =
       let m = message (cmd.Demo (read8Of b)) (replicate 32 0) in
       byte-right (withPartial demoHeld s) held b image room .judged refl ∙ ap (λ (x : State). judgeOf x m image room) empty
       ∙ demo-judged s (accepted-exactly .tells s t .1 .mode-is) b h (replicate 32 0) image room
@@ -338,14 +338,14 @@ module _ (s : State) (t : T (acceptedOf s)) (e : s .partial ≡ emptyPartial) (i
   four-or-three false = refl
 
   demo-right : DemoRight s image room
-  unfolding dataLength waits
+  unfolding dataLength untilOpcode
   demo-right =
       record {
         opcode-waits = opcode-waits;
         held-accepted = held;
-        number = number;
+        demo-byte = demo-byte;
         named = refl;
-        before-named = ap (λ (o : Outcome). o .number) (number 128 (omega arith)) ∙ four-or-three (eqb (s .mode) 0);
+        before-named = ap (λ (o : Outcome). o .number) (demo-byte 128 (omega arith)) ∙ four-or-three (eqb (s .mode) 0);
       }
 
 -- ---- backing round a stair head

@@ -9,7 +9,7 @@ use lib.Dec.{T}
 use lib.ListN.{length, replicate}
 use Rattle.wire.specs.Lists.{all, snoc, byteArray}
 use Rattle.frame.specs.Push.{emptyPartial}
-use Rattle.frame.specs.Cut.{CutInNumbers, CutByTable, StoredAsSent, CompleteExactly, ReachableExact, RunOf128s}
+use Rattle.frame.specs.Cut.{CutInNumbers, CutByTable, StoredAsSent, CompleteExactly, ReachableExact, RunTableRight}
 use Rattle.packet.specs.Sensors.{SizesAgree, ListsRight, SensorsInNumbers, PacketsRight, AnswersRight, ChunksRight}
 use Rattle.command.specs.Layout.{encodeOf}
 use Rattle.command.specs.CommandTable.{legalOf}
@@ -51,7 +51,7 @@ pub record Demand2 : Type 0 where
   pub stored-as-sent : StoredAsSent
   pub complete-exactly : CompleteExactly
   pub held-exactly : ReachableExact
-  pub run-table : RunOf128s
+  pub run-table : RunTableRight
   -- the command table: its rows over all opcodes, modes and bytes, and its columns
   pub command-table : CommandsInNumbers
   pub modes : ModeColumn

@@ -9,7 +9,7 @@ use lib.Dec.{T, leb, eqb}
 use lib.ListN.{length, getD, replicate}
 use Rattle.wire.specs.Lists.{all, upToTrue, allBytes}
 use Rattle.frame.specs.Push.{pushOf, emptyPartial, afterOf, completed}
-use Rattle.frame.specs.RunTable.{waits}
+use Rattle.frame.specs.RunTable.{untilOpcode}
 use Rattle.frame.specs.Cut.{longSong}
 use Rattle.command.specs.Layout.{decodeOf}
 use Rattle.state.specs.State.{powerOn, withPartial}
@@ -51,18 +51,18 @@ endsHeld s cs k =
     let r = getD (readings s cs) k noReading in
     judgeOf (withPartial emptyPartial (r .state)) (decodeOf (pushOf (afterOf (s .partial) (replicate k 128)) 128 .partial .bytes)) (r .image) (r .room) .number
 
--- what is told of a list of calls from s that reads nothing but 128s. Bytes are counted from 0, so that the named one is byte `waits`.
-pub record Told (s : State) (cs : List Call) : Type 0 where
+-- what is told of a list of calls from s that reads nothing but 128s. Bytes are counted from 0, so that the named one is byte `untilOpcode`.
+pub record RunOf128s (s : State) (cs : List Call) : Type 0 where
   -- the named byte is the first that is read as an opcode, and all later ones are too
-  pub opcode-at : (k : ℕ) → k < length (bytesRead s cs) → getD (opcodesRead s cs) k false ≡ leb (waits (s .partial)) k
+  pub opcode-at : (k : ℕ) → k < length (bytesRead s cs) → getD (opcodesRead s cs) k false ≡ leb (untilOpcode (s .partial)) k
   -- the bytes before it give 9, save the last of them
-  pub before-nine : (k : ℕ) → suc k < waits (s .partial) → k < length (bytesRead s cs) → getD (numbers s cs) k 0 ≡ 9
+  pub before-nine : (k : ℕ) → suc k < untilOpcode (s .partial) → k < length (bytesRead s cs) → getD (numbers s cs) k 0 ≡ 9
   -- which gives the number of the command that it ends
-  pub last-ends : (k : ℕ) → suc k ≡ waits (s .partial) → k < length (bytesRead s cs) → getD (numbers s cs) k 0 ≡ endsHeld s cs k
+  pub last-ends : (k : ℕ) → suc k ≡ untilOpcode (s .partial) → k < length (bytesRead s cs) → getD (numbers s cs) k 0 ≡ endsHeld s cs k
   -- the named byte and all later ones give 0
-  pub then-zero : (k : ℕ) → waits (s .partial) ≤ k → k < length (bytesRead s cs) → getD (numbers s cs) k 9 ≡ 0
+  pub then-zero : (k : ℕ) → untilOpcode (s .partial) ≤ k → k < length (bytesRead s cs) → getD (numbers s cs) k 9 ≡ 0
   -- from the named byte on the board is idle after every call
-  pub idle-after : (done rest : List Call) → cs ≡ done ++ rest → waits (s .partial) < length (bytesRead s done) → T (idle (after s done))
+  pub idle-after : (done rest : List Call) → cs ≡ done ++ rest → untilOpcode (s .partial) < length (bytesRead s done) → T (idle (after s done))
 
 -- each byte that is read is 128; what a run leaves unread may be anything
 abbrev pub All128 : List ℕ → Type 0
@@ -80,7 +80,7 @@ abbrev pub longest : State
 longest = withPartial (longSong 0 510) moving
 
 -- what idle says
-pub record IdleTells (s : State) : Type 0 where
+pub record IdleFacts (s : State) : Type 0 where
   pub in-passive : s .mode ≡ 1
   pub none-held : s .partial .count ≡ 0
   pub none-remaining : s .partial .remaining ≡ 0
@@ -99,7 +99,7 @@ pub record NeedsAll (cs : List Call) : Type 0 where
 
 -- THEOREM: demand 3
 pub record Demand3 : Type 0 where
-  pub idle-tells : (s : State) → T (idle s) → IdleTells s
+  pub idle-facts : (s : State) → T (idle s) → IdleFacts s
   pub counts-agree : CountsAgree
   -- the cut never depends on the mode, nor on a refusal: calls that read no byte leave the held frame alone, and bytes of any values are cut as `next` does
   pub cut : (s : State) (cs : List Call) → after s cs .partial ≡ afterOf (s .partial) (bytesRead s cs)
@@ -108,7 +108,7 @@ pub record Demand3 : Type 0 where
   pub does-nothing-not : EndsIdle doesNothing → ⊥
   pub first-byte-not : EndsIdle firstByteOnly → ⊥
   -- byte by byte
-  pub told : (s : State) → T (acceptedOf s) → (cs : List Call) → All128 (bytesRead s cs) → Told s cs
+  pub run-of-128s : (s : State) → T (acceptedOf s) → (cs : List Call) → All128 (bytesRead s cs) → RunOf128s s cs
   -- least: of every record in Full with 510 bytes remaining, bad ones too, and bytes of any values
   pub least : (s : State) → s .mode ≡ 3 → s .partial .remaining ≡ 510 → (cs : List Call) → T (idle (after s cs)) → 511 ≤ length (bytesRead s cs)
   -- such a record is accepted; from it 511 bytes 128 end idle, and 510 do not

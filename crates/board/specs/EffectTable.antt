@@ -75,7 +75,7 @@ effectTable =
     ∷ row (1 ∷ []) (turns 130 2 ∷ [])
     ∷ row (1 ∷ 2 ∷ 3 ∷ []) (turns 131 2 ∷ turns 132 3 ∷ [])
     ∷ row (2 ∷ 3 ∷ []) (stopping 133 (nothingSet [] ∷ []) ∷ [])
-    ∷ row (1 ∷ 2 ∷ 3 ∷ []) (stopping 136 (map (λ number. nothingSet (number ∷ [])) (255 ∷ fromTo 0 9)) ∷ [])
+    ∷ row (1 ∷ 2 ∷ 3 ∷ []) (stopping 136 (map (λ demo. nothingSet (demo ∷ [])) (255 ∷ fromTo 0 9)) ∷ [])
     ∷ row (1 ∷ 2 ∷ 3 ∷ []) (map (λ op. stopping op (nothingSet [] ∷ [])) (134 ∷ 135 ∷ 143 ∷ []))
     ∷ row (2 ∷ 3 ∷ [])
     (staying 137
@@ -162,8 +162,8 @@ stopped s = withDuties (0 ∷ 0 ∷ 0 ∷ []) (withWheels 0 (pos 0) (pos 0) s)
 
 -- a record of each mode with a value in every part: in Safe and Full the motors run, songs 0 and 15 are set and none plays, song 3 is selected, the list
 -- 29 13 is streamed, half a Drive is read
-abbrev pub telling : ℕ → State
-telling mode =
+abbrev pub sampleRecord : ℕ → State
+sampleRecord mode =
     let s = withSelected 3 (withPlaying 0 (withMode mode moving)) in
     cond (among (2 ∷ 3 ∷ []) mode) s (stopped s)
 
@@ -186,7 +186,7 @@ judged e x s = judgeOf s (decodeOf (padded 35 (e .opcode ∷ x .sent))) sampleIm
 
 abbrev sampleRight : List ℕ → Entry → Sample → ℕ → Bool
 sampleRight modes e x mode =
-    all (λ s. sameOutcome (judged e x s) (expected modes e x mode s)) (telling mode ∷ withStreaming 0 (telling mode) ∷ [])
+    all (λ s. sameOutcome (judged e x s) (expected modes e x mode s)) (sampleRecord mode ∷ withStreaming 0 (sampleRecord mode) ∷ [])
 
 -- every sample, in all four modes
 abbrev pub rowRight : EffectRow → Bool

@@ -76,7 +76,7 @@ effectOf cmd.Control p = does (withMode safe)
 effectOf cmd.Safe p = does (withMode safe)
 effectOf cmd.Full p = does (withMode full)
 effectOf cmd.Power p = does toPassive
-effectOf (cmd.Demo number) p = does toPassive
+effectOf (cmd.Demo demo) p = does toPassive
 effectOf cmd.Spot p = does toPassive
 effectOf cmd.Cover p = does toPassive
 effectOf cmd.Dock p = does toPassive
@@ -91,9 +91,9 @@ effectOf (cmd.Leds bits color intensity) p = does (withLeds (bits ∷ color ∷ 
 effectOf (cmd.Outputs bits) p = does (withOutputs bits)
 effectOf (cmd.Infrared code) p = does (withInfrared code)
 -- song replaced; the notes past its length are 0 in the payload
-effectOf (cmd.Song number notes) p = does (withSong number (record { len = notes; notes = p }))
+effectOf (cmd.Song song notes) p = does (withSong song (record { len = notes; notes = p }))
 -- selected, playing
-effectOf (cmd.Play number) p = plays number (λ s. withPlaying 1 (withSelected number s))
+effectOf (cmd.Play song) p = plays song (λ s. withPlaying 1 (withSelected song s))
 -- answers that packet
 effectOf (cmd.Sensors id) p = asks (id ∷ [])
 -- answers the packets in order

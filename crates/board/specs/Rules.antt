@@ -13,7 +13,7 @@ use lib.ListN.{length, take}
 use Rattle.wire.specs.Lists.{allBytes}
 use Rattle.wire.specs.Sixteen.{minus}
 use Rattle.frame.specs.Push.{pushOf, stored, emptyPartial, nextOf}
-use Rattle.frame.specs.RunTable.{waits}
+use Rattle.frame.specs.RunTable.{untilOpcode}
 use Rattle.frame.specs.declared.Partial.{Partial}
 use Rattle.packet.specs.Packets.{answerBytes, chunkBytes}
 use Rattle.packet.specs.declared.Status.{Status}
@@ -50,7 +50,7 @@ pub record EffectColumn (p : List ℕ) : Type 0 where
   pub safe : Does cmd.Safe p (withMode 2)
   pub full : Does cmd.Full p (withMode 3)
   pub power : Does cmd.Power p toPassive
-  pub demo : (number : ℤ) → Does (cmd.Demo number) p toPassive
+  pub demo : (demo : ℤ) → Does (cmd.Demo demo) p toPassive
   pub spot : Does cmd.Spot p toPassive
   pub cover : Does cmd.Cover p toPassive
   pub dock : Does cmd.Dock p toPassive
@@ -61,7 +61,7 @@ pub record EffectColumn (p : List ℕ) : Type 0 where
   pub leds : (bits color intensity : ℕ) → Does (cmd.Leds bits color intensity) p (withLeds (bits ∷ color ∷ intensity ∷ []))
   pub outputs : (bits : ℕ) → Does (cmd.Outputs bits) p (withOutputs bits)
   pub infrared : (code : ℕ) → Does (cmd.Infrared code) p (withInfrared code)
-  pub song : (number notes : ℕ) → Does (cmd.Song number notes) p (withSong number (record { len = notes; notes = p }))
+  pub song : (song notes : ℕ) → Does (cmd.Song song notes) p (withSong song (record { len = notes; notes = p }))
   pub stream : (ids : ℕ) → Does (cmd.Stream ids) p (λ s. withStreaming 1 (withList ids (take 16 p) s))
   pub pause-off : Does (cmd.Pause 0) p (withStreaming 0)
   pub pause-on : Does (cmd.Pause 1) p (withStreaming 1)
@@ -205,9 +205,9 @@ demoGives b s = cond (eqb (s .mode) 0) (gives 3 s) (cond (eqb b 255 || leb b 9) 
 pub record DemoRight (s : State) (image : List ℕ) (room : ℕ) : Type 0 where
   pub opcode-waits : byteOf s 136 image room ≡ gives 9 (withPartial demoHeld s)
   pub held-accepted : T (acceptedOf (withPartial demoHeld s))
-  pub number : (b : ℕ) → b < 256 → byteOf (withPartial demoHeld s) b image room ≡ demoGives b s
+  pub demo-byte : (b : ℕ) → b < 256 → byteOf (withPartial demoHeld s) b image room ≡ demoGives b s
   -- so byte 2 of a run of 128s is the first that is read as an opcode, and the one before it gives 4, and 3 in Off
-  pub named : waits demoHeld ≡ 1
+  pub named : untilOpcode demoHeld ≡ 1
   pub before-named : byteOf (withPartial demoHeld s) 128 image room .number ≡ cond (eqb (s .mode) 0) 3 4
 
 -- ---- document 02, Two: backing round a stair head

@@ -16,7 +16,7 @@ use Rattle.state.specs.Same.{sameState}
 use Rattle.state.specs.declared.State.{State}
 use Rattle.board.specs.Outcome.{gives}
 use Rattle.board.specs.Calls.{Performed, performed, runOf, Call, byte, run, report, tick, songEnd, Board, perform}
-use Rattle.board.specs.EffectTable.{telling, sampleImage}
+use Rattle.board.specs.EffectTable.{sampleRecord, sampleImage}
 
 -- ---- rows
 
@@ -110,7 +110,7 @@ expanded c = byBytes c ∷ byRun [] c ∷ cond (eqb (lastOf (c .fed)) 9) [] (byR
 
 -- a record of this mode with a value in every part, and nothing held
 abbrev ready : ℕ → State
-ready mode = withPartial (stored [] 0) (telling mode)
+ready mode = withPartial (stored [] 0) (sampleRecord mode)
 
 abbrev w1 : ByteCase
 w1 = feeding (ready 0) (128 giving 0 ∷ []) (withMode 1 (ready 0))

@@ -123,12 +123,12 @@ fn refusal_of(command: Command) -> u8
 }
 
 // Whether a song of the table is set.
-fn is_set(songs: Songs, number: u8) -> bool
-    requires { ⌜ number < 16 ⌝ }
-    ensures { λ r. ⌜ r ≡ isSet (songAt songs number) ⌝ }
+fn is_set(songs: Songs, song: u8) -> bool
+    requires { ⌜ song < 16 ⌝ }
+    ensures { λ r. ⌜ r ≡ isSet (songAt songs song) ⌝ }
 {
     let table = songs.table;
-    table[number as usize].len != 0
+    table[song as usize].len != 0
 }
 
 // Done, and nothing is written.
@@ -150,9 +150,9 @@ fn carry_out(state: State, message: Message, image: &[u8; 40], buffer: &mut [u8]
     let command = message.command;
     let payload = message.payload;
     match command {
-        Command::Play(number) => {
+        Command::Play(song) => {
             let songs = state.songs;
-            if !is_set(songs, number) {
+            if !is_set(songs, song) {
                 return wire::refuse(NO_SONG);
             }
             if songs.playing == state::YES {

@@ -86,9 +86,9 @@ pub bytes-legal : (k a b d : ℕ) → (leb a k && (leb b k && leb d k))
     ≡ ((isLegal (upTo k) (pos a) && (isLegal (upTo k) (pos b) && (isLegal (upTo k) (pos d) && true))) && true)
 bytes-legal k a b d = sym (simp (up-to k a, up-to k b, up-to k d, and-true))
 
-song-tested : (number notes : ℕ) (l : List ℕ) → allBytes l ≡ true → (leb number 15 && (leb 1 notes && leb notes 16))
-    ≡ ((isLegal (upTo 15) (pos number) && (isLegal ((pos 1 to pos 16) ∷ []) (pos notes) && true)) && allBytes l)
-song-tested number notes l e = sym (simp (up-to 15 number, in-range 1 16 notes, e, and-true))
+song-tested : (song notes : ℕ) (l : List ℕ) → allBytes l ≡ true → (leb song 15 && (leb 1 notes && leb notes 16))
+    ≡ ((isLegal (upTo 15) (pos song) && (isLegal ((pos 1 to pos 16) ∷ []) (pos notes) && true)) && allBytes l)
+song-tested song notes l e = sym (simp (up-to 15 song, in-range 1 16 notes, e, and-true))
 
 pub ids-legal : (ids : ℕ) (rule : Bool) → (leb ids 16 && rule) ≡ ((isLegal (upTo 16) (pos ids) && true) && rule)
 ids-legal ids rule = sym (simp (up-to 16 ids, and-true))
@@ -160,12 +160,12 @@ unfolding rowOf legalOf
 leds-legal a b d p f g h =
     sym (bytes-legal 255 a b d) ∙ simp (le-leb a 255 (omega arith), le-leb b 255 (omega arith), le-leb d 255 (omega arith))
 
-pub song-is : (number notes : ℕ) (p : List ℕ) → T (allBytes p)
-    → legalOf (message (Song number notes) p) ≡ (leb number 15 && (leb 1 notes && leb notes 16))
+pub song-is : (song notes : ℕ) (p : List ℕ) → T (allBytes p)
+    → legalOf (message (Song song notes) p) ≡ (leb song 15 && (leb 1 notes && leb notes 16))
 unfolding rowOf legalOf
-song-is number notes p t =
+song-is song notes p t =
     let n = 2 * storedCount notes in
-    sym (song-tested number notes (take n p) (is-true (allBytes (take n p)) (all-take isByte n p t)))
+    sym (song-tested song notes (take n p) (is-true (allBytes (take n p)) (all-take isByte n p t)))
 
 -- past a legal count the rule for the payload makes no difference
 counted : (rule : List ℕ → Bool) (n : ℕ) (p : List ℕ) → (leb n 16 && rule (take (storedCount n) p)) ≡ (leb n 16 && rule (take n p))

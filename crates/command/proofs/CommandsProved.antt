@@ -19,10 +19,10 @@ use Rattle.frame.specs.FrameTable.{dataLength, inNoRow}
 use Rattle.frame.specs.Cut.{CompleteAtLast}
 use Rattle.packet.specs.SizeTable.{sizeOf, groupOf}
 use Rattle.packet.specs.Answers.{listableOf, streamableOf}
-use Rattle.command.specs.Layout.{refusalOf, payloadSize, headOf, payloadIn, encodeOf, readings, commandFor, commandOf, decodeOf}
+use Rattle.command.specs.Layout.{refusalOf, payloadSize, headOf, payloadIn, encodeOf, decodeTable, commandFor, commandOf, decodeOf}
 use Rattle.command.specs.CommandTable.{isIn, isLegal, rowOf, allowedOf, legalOf, writeReply}
 use Rattle.command.specs.Cases.{longestSong}
-use Rattle.command.specs.Commands.{CommandsInNumbers, message, ModeColumn, DataColumn, unusedZero, DecodeTells, DecodingRight, WritingRight, messageAt, RoundTrip}
+use Rattle.command.specs.Commands.{CommandsInNumbers, message, ModeColumn, DataColumn, unusedZero, DecodeFacts, DecodingRight, WritingRight, messageAt, RoundTrip}
 use Rattle.command.specs.declared.Command.{Command}
 use Rattle.command.specs.declared.Message.{Message}
 use Rattle.command.proofs.VariantLaws.{every}
@@ -97,12 +97,12 @@ module _ (bytes : List ℕ) (t : T (byteArray 35 bytes)) where
   unknown-exactly : eqb (refusalOf c) 1 ≡ inNoRow (dataLength (d 0))
   unfolding dataLength commandOf
   unknown-exactly =
-      alike (λ op. eqb (refusalOf (commandFor readings op (d 1) (d 2) (d 3) (d 4))) 1) (λ op. inNoRow (dataLength op)) tt (d 0) (byte-at bytes (array .1) 0)
+      alike (λ op. eqb (refusalOf (commandFor decodeTable op (d 1) (d 2) (d 3) (d 4))) 1) (λ op. inNoRow (dataLength op)) tt (d 0) (byte-at bytes (array .1) 0)
 
   not-offered-exactly : eqb (refusalOf c) 2 ≡ within 152 158 (d 0)
   unfolding commandOf
   not-offered-exactly =
-      alike (λ op. eqb (refusalOf (commandFor readings op (d 1) (d 2) (d 3) (d 4))) 2) (within 152 158) tt (d 0) (byte-at bytes (array .1) 0)
+      alike (λ op. eqb (refusalOf (commandFor decodeTable op (d 1) (d 2) (d 3) (d 4))) 2) (within 152 158) tt (d 0) (byte-at bytes (array .1) 0)
 
   -- the payload in use, and the zeros after it
   abbrev used : List ℕ
@@ -163,9 +163,9 @@ module _ (bytes : List ℕ) (t : T (byteArray 35 bytes)) where
   past-stream : d 0 ≡ 148 → 16 < d 1 → decodeOf bytes .payload ≡ replicate 32 0
   past-stream e h = no-payload (ap payloadSize (sym (says bytes e)) ∙ stored-none (d 1) h)
 
-  decode-tells : DecodeTells bytes
+  decode-facts : DecodeFacts bytes
   unfolding decodeOf
-  decode-tells =
+  decode-facts =
       record {
         sent-again = sent-again;
         opcode-kept = spelled bytes (array .1) .opcode;
@@ -180,7 +180,7 @@ module _ (bytes : List ℕ) (t : T (byteArray 35 bytes)) where
       }
 
 pub decoding-right : DecodingRight
-decoding-right = decode-tells
+decoding-right = decode-facts
 
 -- ---- write
 

@@ -15,7 +15,7 @@ use Rattle.wire.specs.Lists.{among, within, padded}
 use Rattle.wire.specs.Buffer.{Put}
 use Rattle.wire.proofs.BoolLaws.{le-or-lt}
 use Rattle.wire.proofs.BufferLaws.{overwrite-zeros, put-start, put-then}
-use Rattle.command.specs.Layout.{storedCount, payloadSize, headOf, headed, payloadIn, encodeOf, Reading, readings, otherwise, commandFor, commandOf, decodeOf}
+use Rattle.command.specs.Layout.{storedCount, payloadSize, headOf, headed, payloadIn, encodeOf, DecodeRow, decodeTable, otherwise, commandFor, commandOf, decodeOf}
 use Rattle.command.specs.declared.Command.{Command}
 use Rattle.command.specs.declared.Command.the-variants.{Unknown, NotOffered}
 use Rattle.command.specs.declared.Message.{Message}
@@ -71,24 +71,24 @@ head-as p e = p ∙ ap (λ (c : Command). headed (headOf c)) (sym e)
 
 -- an arm that knows the opcode
 pub says : (bytes : List ℕ) {op : ℕ} → getD bytes 0 0 ≡ op
-    → commandFor readings op (getD bytes 1 0) (getD bytes 2 0) (getD bytes 3 0) (getD bytes 4 0) ≡ commandOf bytes
+    → commandFor decodeTable op (getD bytes 1 0) (getD bytes 2 0) (getD bytes 3 0) (getD bytes 4 0) ≡ commandOf bytes
 unfolding commandOf
-says bytes e = sym (ap (λ (k : ℕ). commandFor readings k (getD bytes 1 0) (getD bytes 2 0) (getD bytes 3 0) (getD bytes 4 0)) e)
+says bytes e = sym (ap (λ (k : ℕ). commandFor decodeTable k (getD bytes 1 0) (getD bytes 2 0) (getD bytes 3 0) (getD bytes 4 0)) e)
 
 -- the opcodes that are read
-abbrev opcodes : List Reading → List ℕ
-opcodes rs = map (λ (r : Reading). r .opcode) rs
+abbrev opcodes : List DecodeRow → List ℕ
+opcodes rs = map (λ (r : DecodeRow). r .opcode) rs
 
 -- which opcodes are left: 2 not offered, 1 unknown; 0 is for those that are read
 abbrev pub sort : ℕ → ℕ
-sort op = cond (among (opcodes readings) op) 0 (cond (within 152 158 op) 2 1)
+sort op = cond (among (opcodes decodeTable) op) 0 (cond (within 152 158 op) 2 1)
 
-look-miss : (r : Reading) (rs : List Reading) (op a b c d : ℕ) (t : Bool) → eqb op (r .opcode) ≡ t → among (opcodes (r ∷ rs)) op ≡ false
+look-miss : (r : DecodeRow) (rs : List DecodeRow) (op a b c d : ℕ) (t : Bool) → eqb op (r .opcode) ≡ t → among (opcodes (r ∷ rs)) op ≡ false
     → (among (opcodes rs) op ≡ false → commandFor rs op a b c d ≡ otherwise op) → commandFor (r ∷ rs) op a b c d ≡ otherwise op
 look-miss r rs op a b c d true t e f = cc (rw t at e)
 look-miss r rs op a b c d false t e f = simp t (f (rw t at e))
 
-look-none : (rs : List Reading) (op a b c d : ℕ) → among (opcodes rs) op ≡ false → commandFor rs op a b c d ≡ otherwise op
+look-none : (rs : List DecodeRow) (op a b c d : ℕ) → among (opcodes rs) op ≡ false → commandFor rs op a b c d ≡ otherwise op
 look-none [] op a b c d e = refl
 look-none (r ∷ rs) op a b c d e = look-miss r rs op a b c d (eqb op (r .opcode)) refl e (look-none rs op a b c d)
 
@@ -102,13 +102,13 @@ module _ (bytes : List ℕ) where
   op = getD bytes 0 0
 
   -- an opcode that is not read
-  pub unread : among (opcodes readings) op ≡ false → commandOf bytes ≡ otherwise op
+  pub unread : among (opcodes decodeTable) op ≡ false → commandOf bytes ≡ otherwise op
   unfolding commandOf
-  unread = look-none readings op (getD bytes 1 0) (getD bytes 2 0) (getD bytes 3 0) (getD bytes 4 0)
+  unread = look-none decodeTable op (getD bytes 1 0) (getD bytes 2 0) (getD bytes 3 0) (getD bytes 4 0)
 
   left-over : (n : ℕ) → suc n ≡ sort op → cond (eqb n 1) (NotOffered op) (Unknown op) ≡ commandOf bytes
   left-over n e =
-      let s = sort-is (among (opcodes readings) op) (within 152 158 op) n e in
+      let s = sort-is (among (opcodes decodeTable) op) (within 152 158 op) n e in
       sym (unread (s .0) ∙ ap (λ (w : Bool). cond w (NotOffered op) (Unknown op)) (s .1))
 
   -- an arm for what is left

@@ -26,7 +26,7 @@ use Rattle.frame.proofs.StoredLaws.{kept-all, kept-header}
 use Rattle.frame.proofs.PushLaws.{header-le-frame, Agree, length-agree, stores-agree}
 use Rattle.frame.proofs.CutProved.{complete-exactly, stored-as-sent}
 use Rattle.packet.specs.Answers.{listableOf, streamableOf}
-use Rattle.command.specs.Layout.{allSent, formOf, opcodeOf, refusalOf, storedCount, payloadSize, headOf, payloadIn, encodeOf, Reading, readings, commandFor, commandOf, decodeOf}
+use Rattle.command.specs.Layout.{allSent, formOf, opcodeOf, refusalOf, storedCount, payloadSize, headOf, payloadIn, encodeOf, DecodeRow, decodeTable, commandFor, commandOf, decodeOf}
 use Rattle.command.specs.CommandTable.{_to_, upTo, isLegal, rowOf, legalOf}
 use Rattle.command.specs.Commands.{message, unusedZero, messageAt, readAs}
 use Rattle.command.specs.declared.Command.{Command}
@@ -51,10 +51,10 @@ laid-as : {c : Command} → T (ltb (opcodeOf c) 256) → ((rest : List ℕ) → 
 laid-as t b s k = record { opcode = t; back = b; size = s; stores = k }
 
 -- a legal song's length
-notes-le : (number notes : ℕ) (rule : Bool)
-    → T ((isLegal (upTo 15) (pos number) && (isLegal ((pos 1 to pos 16) ∷ []) (pos notes) && true)) && rule) → notes ≤ 16
-notes-le number notes rule t =
-    let n = isLegal (upTo 15) (pos number) in
+notes-le : (song notes : ℕ) (rule : Bool)
+    → T ((isLegal (upTo 15) (pos song) && (isLegal ((pos 1 to pos 16) ∷ []) (pos notes) && true)) && rule) → notes ≤ 16
+notes-le song notes rule t =
+    let n = isLegal (upTo 15) (pos song) in
     let l = isLegal ((pos 1 to pos 16) ∷ []) (pos notes) in
     let s = and-yes (n && (l && true)) rule t in
     let u = and-yes l true (and-yes n (l && true) (s .0) .1) in
@@ -68,7 +68,7 @@ laid Control p f t = laid-as tt (λ r. refl) (λ r. refl) (λ r. refl)
 laid Safe p f t = laid-as tt (λ r. refl) (λ r. refl) (λ r. refl)
 laid Full p f t = laid-as tt (λ r. refl) (λ r. refl) (λ r. refl)
 laid Power p f t = laid-as tt (λ r. refl) (λ r. refl) (λ r. refl)
-laid (Demo number) p f t = laid-as tt (λ r. ap Demo (round-trip-bits 128 .read-written number (f .0 .sfits))) (λ r. refl) (λ r. refl)
+laid (Demo demo) p f t = laid-as tt (λ r. ap Demo (round-trip-bits 128 .read-written demo (f .0 .sfits))) (λ r. refl) (λ r. refl)
 laid Spot p f t = laid-as tt (λ r. refl) (λ r. refl) (λ r. refl)
 laid Cover p f t = laid-as tt (λ r. refl) (λ r. refl) (λ r. refl)
 laid Dock p f t = laid-as tt (λ r. refl) (λ r. refl) (λ r. refl)
@@ -79,10 +79,10 @@ laid (Duties a b d) p f t = laid-as tt (λ r. refl) (λ r. refl) (λ r. refl)
 laid (Leds a b d) p f t = laid-as tt (λ r. refl) (λ r. refl) (λ r. refl)
 laid (Outputs bits) p f t = laid-as tt (λ r. refl) (λ r. refl) (λ r. refl)
 laid (Infrared code) p f t = laid-as tt (λ r. refl) (λ r. refl) (λ r. refl)
-laid (Song number notes) p f t =
-    let h = notes-le number notes (allBytes (take (2 * storedCount notes) p)) t in
+laid (Song song notes) p f t =
+    let h = notes-le song notes (allBytes (take (2 * storedCount notes) p)) t in
     laid-as tt (λ r. refl) (λ r. omega (arith, stored-all notes h)) (λ r. le-leb notes 16 h)
-laid (Play number) p f t = laid-as tt (λ r. refl) (λ r. refl) (λ r. refl)
+laid (Play song) p f t = laid-as tt (λ r. refl) (λ r. refl) (λ r. refl)
 laid (Sensors id) p f t = laid-as tt (λ r. refl) (λ r. refl) (λ r. refl)
 laid (QueryList ids) p f t =
     let h = leb→le ids 16 (and-yes (leb ids 16) (listableOf (take ids p)) (subst T (query-legal ids p) t) .0) in
@@ -198,17 +198,17 @@ module _ (bytes : List ℕ) (t : T (allBytes bytes)) where
   d i = getD bytes i 0
 
   -- what a reading makes of the bytes
-  abbrev told : Reading → Command
+  abbrev told : DecodeRow → Command
   told r = r .says (d 1) (d 2) (d 3) (d 4)
 
   -- its opcode, its head's length and its numbers as they are sent; and what these must be
-  abbrev toldAs : Reading → List ℕ
+  abbrev toldAs : DecodeRow → List ℕ
   toldAs r = opcodeOf (told r) ∷ length (headOf (told r)) ∷ allSent (formOf (told r) .items)
 
-  abbrev dueAs : Reading → List ℕ
+  abbrev dueAs : DecodeRow → List ℕ
   dueAs r = r .opcode ∷ least (dataLength (r .opcode)) ∷ map (λ i. getD bytes i 0) (span 1 (length (allSent (formOf (told r) .items))))
 
-  look-spelled : (rs : List Reading) (op : ℕ) → map toldAs rs ≡ map dueAs rs → Spelled bytes op (commandFor rs op (d 1) (d 2) (d 3) (d 4))
+  look-spelled : (rs : List DecodeRow) (op : ℕ) → map toldAs rs ≡ map dueAs rs → Spelled bytes op (commandFor rs op (d 1) (d 2) (d 3) (d 4))
   look-spelled [] op e =
       cond-is (Spelled bytes op) (within 152 158 op)
       (λ q. record { opcode = refl; sent = refl; shortest = λ z. absurd (omega (arith, z)) })
@@ -224,7 +224,7 @@ module _ (bytes : List ℕ) (t : T (allBytes bytes)) where
       (λ q. look-spelled rs op (ap (λ (l : List (List ℕ)). drop 1 l) e))
 
   -- computed, but for the signed numbers
-  all-spelled : map toldAs readings ≡ map dueAs readings
+  all-spelled : map toldAs decodeTable ≡ map dueAs decodeTable
   unfolding dataLength
   all-spelled =
       let e = round-trip-bits 128 .written-read (d 1) (byte-at bytes t 1) in
@@ -234,7 +234,7 @@ module _ (bytes : List ℕ) (t : T (allBytes bytes)) where
 
   pub spelled : Spelled bytes (d 0) (commandOf bytes)
   unfolding commandOf
-  spelled = look-spelled readings (d 0) all-spelled
+  spelled = look-spelled decodeTable (d 0) all-spelled
 
   pub head-kept : length (headOf (commandOf bytes)) ≤ length bytes → headOf (commandOf bytes) ≡ take (length (headOf (commandOf bytes))) bytes
   head-kept h =

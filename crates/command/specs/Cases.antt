@@ -176,7 +176,7 @@ notRadii = minus 32767 ∷ minus 2001 ∷ pos 0 ∷ pos 2001 ∷ pos 32766 ∷ [
 
 -- a song of this number and length, and lists of these ids
 abbrev song : ℕ → ℕ → List ℕ
-song number notes = 140 ∷ number ∷ notes ∷ replicate (2 * notes) 255
+song n notes = 140 ∷ n ∷ notes ∷ replicate (2 * notes) 255
 
 abbrev list : ℕ → List ℕ → List ℕ
 list op ids = op ∷ length ids ∷ ids

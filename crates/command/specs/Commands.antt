@@ -11,7 +11,7 @@ use lib.ListN.{length, getD, take, drop, replicate}
 use Rattle.wire.specs.declared.Sent.{Sent}
 use Rattle.wire.specs.Lists.{all, allFrom, fromTo, within, snoc, padded, allZero, allBytes, byteArray}
 use Rattle.wire.specs.Sixteen.{minus}
-use Rattle.wire.specs.Replies.{refused, wrote, Replied, ReplyTells}
+use Rattle.wire.specs.Replies.{refused, wrote, Replied, ReplyFacts}
 use Rattle.frame.specs.FrameTable.{dataLength, inNoRow}
 use Rattle.frame.specs.Push.{pushOf, emptyPartial, afterOf}
 use Rattle.frame.specs.Cut.{CompleteAtLast}
@@ -69,14 +69,14 @@ isRadius r = (leZ (minus 2000) r && (leZ r (pos 2000) && not (is r (pos 0)))) ||
 -- THEOREM: the column of legal data, for every value of the commands with a signed number or with more than one data byte
 pub record DataColumn : Type 0 where
   -- -1 to 9
-  pub demo-legal : (number : ℤ) (p : List ℕ) → legalOf (message (Demo number) p) ≡ (leZ (minus 1) number && leZ number (pos 9))
+  pub demo-legal : (demo : ℤ) (p : List ℕ) → legalOf (message (Demo demo) p) ≡ (leZ (minus 1) demo && leZ demo (pos 9))
   pub drive-legal : (velocity radius : ℤ) (p : List ℕ) → legalOf (message (Drive velocity radius) p) ≡ (isSpeed velocity && isRadius radius)
   pub direct-legal : (right left : ℤ) (p : List ℕ) → legalOf (message (Direct right left) p) ≡ (isSpeed right && isSpeed left)
   pub duties-legal : (a b d : ℕ) (p : List ℕ) → legalOf (message (Duties a b d) p) ≡ (leb a 128 && (leb b 128 && leb d 128))
   pub leds-legal : (a b d : ℕ) (p : List ℕ) → a < 256 → b < 256 → d < 256 → legalOf (message (Leds a b d) p) ≡ true
   -- any notes
-  pub song-legal : (number notes : ℕ) (p : List ℕ) → T (allBytes p)
-      → legalOf (message (Song number notes) p) ≡ (leb number 15 && (leb 1 notes && leb notes 16))
+  pub song-legal : (song notes : ℕ) (p : List ℕ) → T (allBytes p)
+      → legalOf (message (Song song notes) p) ≡ (leb song 15 && (leb 1 notes && leb notes 16))
   -- 149's rule and 148's for the first N ids
   pub query-legal : (n : ℕ) (p : List ℕ) → legalOf (message (QueryList n) p) ≡ (leb n 16 && listableOf (take n p))
   pub stream-legal : (n : ℕ) (p : List ℕ) → legalOf (message (Stream n) p) ≡ (leb n 16 && streamableOf (take n p))
@@ -91,7 +91,7 @@ abbrev pub unusedZero : Message → Bool
 unusedZero m = allZero (drop (payloadSize (m .command)) (m .payload))
 
 -- what is told of the message of 35 bytes
-pub record DecodeTells (bytes : List ℕ) : Type 0 where
+pub record DecodeFacts (bytes : List ℕ) : Type 0 where
   -- sent again, it is as many of the bytes, legal or not: its opcode, its numbers and the payload in use are theirs
   pub sent-again : encodeOf (decodeOf bytes) ≡ take (length (encodeOf (decodeOf bytes))) bytes
   pub opcode-kept : opcodeOf (decodeOf bytes .command) ≡ getD bytes 0 0
@@ -110,7 +110,7 @@ pub record DecodeTells (bytes : List ℕ) : Type 0 where
 
 -- THEOREM: it holds of every value of [u8; 35]
 abbrev pub DecodingRight : Type 0
-DecodingRight = (bytes : List ℕ) → T (byteArray 35 bytes) → DecodeTells bytes
+DecodingRight = (bytes : List ℕ) → T (byteArray 35 bytes) → DecodeFacts bytes
 
 -- THEOREM: the writer
 pub record WritingRight : Type 0 where
@@ -120,7 +120,7 @@ pub record WritingRight : Type 0 where
   pub not-offered-4 : (op : ℕ) (p : List ℕ) (room : ℕ) → writeReply (message (NotOffered op) p) room ≡ refused 4
   -- 4 exactly where the data aren't legal, 7 exactly where the frame is longer than the buffer, and else that frame
   pub write-tells : (m : Message) (before after : List ℕ) (result : Sent) → Replied (writeReply m) before after result
-      → ReplyTells (legalOf m) (encodeOf m) before after result
+      → ReplyFacts (legalOf m) (encodeOf m) before after result
   -- a place that the command does not use makes no difference
   pub unused-ignored : (c : Command) (p q : List ℕ) → take (payloadSize c) p ≡ take (payloadSize c) q
       → (room : ℕ) → writeReply (message c p) room ≡ writeReply (message c q) room

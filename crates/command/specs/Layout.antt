@@ -67,7 +67,7 @@ formOf Control = offered 130 []
 formOf Safe = offered 131 []
 formOf Full = offered 132 []
 formOf Power = offered 133 []
-formOf (Demo number) = offered 136 (signedByte number ∷ [])
+formOf (Demo demo) = offered 136 (signedByte demo ∷ [])
 formOf Spot = offered 134 []
 formOf Cover = offered 135 []
 formOf Dock = offered 143 []
@@ -78,8 +78,8 @@ formOf (Duties driver2 driver1 driver0) = offered 144 (byte driver2 ∷ byte dri
 formOf (Leds bits color intensity) = offered 139 (byte bits ∷ byte color ∷ byte intensity ∷ [])
 formOf (Outputs bits) = offered 147 (byte bits ∷ [])
 formOf (Infrared code) = offered 151 (byte code ∷ [])
-formOf (Song number notes) = followed 140 (byte number ∷ byte notes ∷ []) (2 * storedCount notes)
-formOf (Play number) = offered 141 (byte number ∷ [])
+formOf (Song song notes) = followed 140 (byte song ∷ byte notes ∷ []) (2 * storedCount notes)
+formOf (Play song) = offered 141 (byte song ∷ [])
 formOf (Sensors id) = offered 142 (byte id ∷ [])
 formOf (QueryList ids) = followed 149 (byte ids ∷ []) (storedCount ids)
 formOf (Stream ids) = followed 148 (byte ids ∷ []) (storedCount ids)
@@ -119,51 +119,51 @@ encodeOf m = headOf (m .command) ++ payloadIn m
 -- ---- reading
 
 -- what a frame of an opcode says, by its first four data bytes. It is written out, and not derived from the forms, so that the round trip compares the two.
-pub record Reading : Type 0 where
+pub record DecodeRow : Type 0 where
   pub opcode : ℕ
   pub says : ℕ → ℕ → ℕ → ℕ → Command
 
-abbrev reads : ℕ → (ℕ → ℕ → ℕ → ℕ → Command) → Reading
-reads op f = record { opcode = op; says = f }
+abbrev decodes : ℕ → (ℕ → ℕ → ℕ → ℕ → Command) → DecodeRow
+decodes op f = record { opcode = op; says = f }
 
 -- in the order of document 01's rows
-abbrev pub readings : List Reading
-readings =
-    reads 128 (λ a b c d. Start)
-    ∷ reads 129 (λ a b c d. Baud a)
-    ∷ reads 130 (λ a b c d. Control)
-    ∷ reads 131 (λ a b c d. Safe)
-    ∷ reads 132 (λ a b c d. Full)
-    ∷ reads 133 (λ a b c d. Power)
-    ∷ reads 136 (λ a b c d. Demo (read8Of a))
-    ∷ reads 134 (λ a b c d. Spot)
-    ∷ reads 135 (λ a b c d. Cover)
-    ∷ reads 143 (λ a b c d. Dock)
-    ∷ reads 137 (λ a b c d. Drive (read16Of a b) (read16Of c d))
-    ∷ reads 145 (λ a b c d. Direct (read16Of a b) (read16Of c d))
-    ∷ reads 138 (λ a b c d. Drivers a)
-    ∷ reads 144 (λ a b c d. Duties a b c)
-    ∷ reads 139 (λ a b c d. Leds a b c)
-    ∷ reads 147 (λ a b c d. Outputs a)
-    ∷ reads 151 (λ a b c d. Infrared a)
-    ∷ reads 140 (λ a b c d. Song a b)
-    ∷ reads 141 (λ a b c d. Play a)
-    ∷ reads 142 (λ a b c d. Sensors a)
-    ∷ reads 149 (λ a b c d. QueryList a)
-    ∷ reads 148 (λ a b c d. Stream a)
-    ∷ reads 150 (λ a b c d. Pause a)
+abbrev pub decodeTable : List DecodeRow
+decodeTable =
+    decodes 128 (λ a b c d. Start)
+    ∷ decodes 129 (λ a b c d. Baud a)
+    ∷ decodes 130 (λ a b c d. Control)
+    ∷ decodes 131 (λ a b c d. Safe)
+    ∷ decodes 132 (λ a b c d. Full)
+    ∷ decodes 133 (λ a b c d. Power)
+    ∷ decodes 136 (λ a b c d. Demo (read8Of a))
+    ∷ decodes 134 (λ a b c d. Spot)
+    ∷ decodes 135 (λ a b c d. Cover)
+    ∷ decodes 143 (λ a b c d. Dock)
+    ∷ decodes 137 (λ a b c d. Drive (read16Of a b) (read16Of c d))
+    ∷ decodes 145 (λ a b c d. Direct (read16Of a b) (read16Of c d))
+    ∷ decodes 138 (λ a b c d. Drivers a)
+    ∷ decodes 144 (λ a b c d. Duties a b c)
+    ∷ decodes 139 (λ a b c d. Leds a b c)
+    ∷ decodes 147 (λ a b c d. Outputs a)
+    ∷ decodes 151 (λ a b c d. Infrared a)
+    ∷ decodes 140 (λ a b c d. Song a b)
+    ∷ decodes 141 (λ a b c d. Play a)
+    ∷ decodes 142 (λ a b c d. Sensors a)
+    ∷ decodes 149 (λ a b c d. QueryList a)
+    ∷ decodes 148 (λ a b c d. Stream a)
+    ∷ decodes 150 (λ a b c d. Pause a)
     ∷ []
 
 -- 152 to 158 are not offered, and what is left is unknown
 abbrev pub otherwise : ℕ → Command
 otherwise op = cond (within 152 158 op) (NotOffered op) (Unknown op)
 
-abbrev pub commandFor : List Reading → ℕ → ℕ → ℕ → ℕ → ℕ → Command
+abbrev pub commandFor : List DecodeRow → ℕ → ℕ → ℕ → ℕ → ℕ → Command
 commandFor [] op a b c d = otherwise op
 commandFor (r ∷ rs) op a b c d = cond (eqb op (r .opcode)) (r .says a b c d) (commandFor rs op a b c d)
 
 unfoldable pub commandOf : List ℕ → Command
-commandOf bytes = commandFor readings (getD bytes 0 0) (getD bytes 1 0) (getD bytes 2 0) (getD bytes 3 0) (getD bytes 4 0)
+commandOf bytes = commandFor decodeTable (getD bytes 0 0) (getD bytes 1 0) (getD bytes 2 0) (getD bytes 3 0) (getD bytes 4 0)
 
 -- the message of a frame: its command, and the payload that follows the command's bytes, with 0 in the places that are not in use. Past a legal
 -- count, where the papers leave it free, no place is in use.

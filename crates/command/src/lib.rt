@@ -201,7 +201,7 @@ fn head_of(command: Command) -> Head
         Command::Safe => head0(131),
         Command::Full => head0(132),
         Command::Power => head0(133),
-        Command::Demo(number) => head1(136, wire::low16(wire::widen(number))),
+        Command::Demo(demo) => head1(136, wire::low16(wire::widen(demo))),
         Command::Spot => head0(134),
         Command::Cover => head0(135),
         Command::Dock => head0(143),
@@ -212,8 +212,8 @@ fn head_of(command: Command) -> Head
         Command::Leds(bits, color, intensity) => head3(139, bits, color, intensity),
         Command::Outputs(bits) => head1(147, bits),
         Command::Infrared(code) => head1(151, code),
-        Command::Song(number, notes) => head2(140, number, notes),
-        Command::Play(number) => head1(141, number),
+        Command::Song(song, notes) => head2(140, song, notes),
+        Command::Play(song) => head1(141, song),
         Command::Sensors(id) => head1(142, id),
         Command::QueryList(ids) => head1(149, ids),
         Command::Stream(ids) => head1(148, ids),
@@ -343,7 +343,7 @@ pub fn legal(message: Message) -> bool
     let used = &payload[0..n];
     match command {
         Command::Baud(code) => code <= LAST_BAUD,
-        Command::Demo(number) => is_in(-1, 9, wire::widen(number)),
+        Command::Demo(demo) => is_in(-1, 9, wire::widen(demo)),
         Command::Drive(velocity, radius) => is_speed(velocity) && is_radius(radius),
         Command::Direct(right, left) => is_speed(right) && is_speed(left),
         Command::Drivers(bits) => bits <= 7,
@@ -353,9 +353,9 @@ pub fn legal(message: Message) -> bool
         Command::Leds(_bits, _color, _intensity) => true,
         Command::Outputs(bits) => bits <= LAST_OUTPUTS,
         Command::Infrared(_code) => true,
-        Command::Song(number, notes) => number <= LAST_SONG
+        Command::Song(song, notes) => song <= LAST_SONG
             && (1 <= notes && notes <= frame::LEGAL_COUNT),
-        Command::Play(number) => number <= LAST_SONG,
+        Command::Play(song) => song <= LAST_SONG,
         Command::Sensors(id) => id <= packet::LAST_ID,
         Command::QueryList(ids) => ids <= frame::LEGAL_COUNT && packet::listable(used),
         Command::Stream(ids) => ids <= frame::LEGAL_COUNT && packet::streamable(used),

@@ -14,13 +14,13 @@ use Rattle.wire.proofs.BoolLaws.{to-T, le-or-lt}
 use Rattle.frame.specs.FrameTable.{dataLength}
 use Rattle.frame.specs.Push.{bodySizeAs, nextOf, emptyPartial, afterOf, beginsFrame}
 use Rattle.frame.specs.Reach.{reachableOf}
-use Rattle.frame.specs.RunTable.{waits}
-use Rattle.frame.specs.Cut.{ReachableExact, RunOf128s, CutInNumbers, CutByTable, EveryPush, StoredAsSent, CompleteExactly, longSong, RemainingNeeded}
+use Rattle.frame.specs.RunTable.{untilOpcode}
+use Rattle.frame.specs.Cut.{ReachableExact, RunTableRight, CutInNumbers, CutByTable, EveryPush, StoredAsSent, CompleteExactly, longSong, RemainingNeeded}
 use Rattle.frame.proofs.PushLaws.{not-opcodes, still-remain, last-ends, opcodes-append, after-append, stays-array, full-stays, complete-done, finishes, finishes-rest}
 use Rattle.frame.proofs.ReachLaws.{skipping, of-facts, places-le, empty-reachable, next-reachable, after-reachable}
 use Rattle.frame.proofs.StoredLaws.{partial-as-sent, complete-as-sent, sized-completes, completes-sized}
 use Rattle.frame.proofs.Reached.{reachable-left, only-song}
-use Rattle.frame.proofs.RunTableLaws.{rows-run, steps, opcode-at, remaining-le, waits-le}
+use Rattle.frame.proofs.RunTableLaws.{rows-run, steps, opcode-at, remaining-le, until-opcode-le}
 
 pub cut-in-numbers : CutInNumbers
 unfolding dataLength bodySizeAs nextOf
@@ -54,8 +54,8 @@ reachable-exact =
       places-le = places-le;
     }
 
-pub run-of-128s : RunOf128s
-run-of-128s =
+pub run-table-right : RunTableRight
+run-table-right =
     record {
       rows-run = rows-run;
       stays-reachable = next-reachable;
@@ -63,7 +63,7 @@ run-of-128s =
       completes = λ p t. steps p t .0;
       opcode-at = opcode-at;
       remaining-le = remaining-le;
-      enough = λ p t. opcode-at 511 510 p t (omega arith) ∙ le-leb (waits p) 510 (waits-le p t);
+      enough = λ p t. opcode-at 511 510 p t (omega arith) ∙ le-leb (untilOpcode p) 510 (until-opcode-le p t);
     }
 
 song-reachable : (s k : ℕ) → s < 256 → 0 < k → k ≤ 510 → T (reachableOf (longSong s k))

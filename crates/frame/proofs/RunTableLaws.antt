@@ -1,4 +1,4 @@
--- Laws of the run table: what a 128 does to `waits`, and which bytes of a run are opcodes.
+-- Laws of the run table: what a 128 does to `untilOpcode`, and which bytes of a run are opcodes.
 -- Assumes nothing.
 use mathlib.Core.Path.{_≡_, refl, sym, subst, ap, _∙_}
 use mathlib.Core.Bool.{Bool, false, not, _||_}
@@ -18,7 +18,7 @@ use Rattle.wire.proofs.ListsLaws.{from, byte-at}
 use Rattle.frame.specs.FrameTable.{dataLength, headerSize}
 use Rattle.frame.specs.Push.{Pushed, bodySizeAs, lengthOf, headerOf, bodySize, measureOf, pushOf, emptyPartial, nextOf, beginsFrame, opcodes}
 use Rattle.frame.specs.Reach.{reachableOf}
-use Rattle.frame.specs.RunTable.{runTable, waits, rowRuns}
+use Rattle.frame.specs.RunTable.{runTable, untilOpcode, rowRuns}
 use Rattle.frame.specs.declared.Length.{Length}
 use Rattle.frame.specs.declared.Length.the-variants.{Fixed, Counted, Song, Unknown}
 use Rattle.frame.specs.declared.Partial.{Partial}
@@ -30,16 +30,16 @@ pub rows-run : T (all rowRuns runTable)
 unfolding dataLength nextOf bodySizeAs
 rows-run = tt
 
--- ---- waits, by what is held
+-- ---- untilOpcode, by what is held
 
-waits-empty : waits emptyPartial ≡ 0
-unfolding waits
-waits-empty = refl
+until-opcode-empty : untilOpcode emptyPartial ≡ 0
+unfolding untilOpcode
+until-opcode-empty = refl
 
 -- while bytes remain, of any partial frame
-waits-remaining : (p : Partial) → 0 < p .remaining → waits p ≡ p .remaining
-unfolding waits
-waits-remaining p h = simp (pos-eqb _ h) (omega arith)
+until-opcode-remaining : (p : Partial) → 0 < p .remaining → untilOpcode p ≡ p .remaining
+unfolding untilOpcode
+until-opcode-remaining p h = simp (pos-eqb _ h) (omega arith)
 
 -- the body's size where the count byte is a 128
 abbrev body128 : Length → ℕ
@@ -52,28 +52,28 @@ begunWith op n = record { bytes = op ∷ []; count = n; remaining = 0 }
 -- the rows for a frame in its header, computed over all opcodes: the rest of the header comes, and the body that a 128 announces
 abbrev headerRow : ℕ → ℕ → Bool
 headerRow n op =
-    let l = dataLength op in not (ltb n (headerSize l)) || eqb (waits (begunWith op n)) (headerSize l - n + body128 l)
+    let l = dataLength op in not (ltb n (headerSize l)) || eqb (untilOpcode (begunWith op n)) (headerSize l - n + body128 l)
 
 header-rows : (n : ℕ) → T (allFrom (headerRow n) 0 256) → (op : ℕ) → op < 256 → n < headerSize (dataLength op)
-    → waits (begunWith op n) ≡ headerSize (dataLength op) - n + body128 (dataLength op)
+    → untilOpcode (begunWith op n) ≡ headerSize (dataLength op) - n + body128 (dataLength op)
 header-rows n t op h a =
     let l = dataLength op in
     eqb→eq _ _
-    (implied (ltb n (headerSize l)) (eqb (waits (begunWith op n)) (headerSize l - n + body128 l))
+    (implied (ltb n (headerSize l)) (eqb (untilOpcode (begunWith op n)) (headerSize l - n + body128 l))
     (from (headerRow n) 0 256 t op zero-le (omega arith)) (yes-ltb a))
 
 header-row : (n : ℕ) → 0 < n → n ≤ 2 → (op : ℕ) → op < 256 → n < headerSize (dataLength op)
-    → waits (begunWith op n) ≡ headerSize (dataLength op) - n + body128 (dataLength op)
-unfolding waits dataLength bodySizeAs
+    → untilOpcode (begunWith op n) ≡ headerSize (dataLength op) - n + body128 (dataLength op)
+unfolding untilOpcode dataLength bodySizeAs
 header-row zero p q = absurd (omega arith)
 header-row (suc zero) p q = header-rows 1 tt
 header-row (suc (suc zero)) p q = header-rows 2 tt
 header-row (suc (suc (suc n))) p q = absurd (omega arith)
 
-waits-header : (p : Partial) → getD (p .bytes) 0 0 < 256 → p .remaining ≡ 0 → 0 < p .count → p .count < headerOf (p .bytes)
-    → waits p ≡ headerOf (p .bytes) - p .count + body128 (lengthOf (p .bytes))
-unfolding waits
-waits-header p b z h a =
+until-opcode-header : (p : Partial) → getD (p .bytes) 0 0 < 256 → p .remaining ≡ 0 → 0 < p .count → p .count < headerOf (p .bytes)
+    → untilOpcode p ≡ headerOf (p .bytes) - p .count + body128 (lengthOf (p .bytes))
+unfolding untilOpcode
+until-opcode-header p b z h a =
     let le = header-le (lengthOf (p .bytes)) in
     rw z (header-row (p .count) h (omega arith) (getD (p .bytes) 0 0) b a)
 
@@ -97,20 +97,20 @@ body-as-128 Unknown bs n h a b = absurd (omega arith)
 
 -- what a 128 does: it completes a frame where at most one byte is waited for, and one less is waited for after it
 abbrev Steps : Partial → Type 0
-Steps p = (pushOf p 128 .complete ≡ leb (waits p) 1) × (waits (nextOf p 128) ≡ waits p - 1)
+Steps p = (pushOf p 128 .complete ≡ leb (untilOpcode p) 1) × (untilOpcode (nextOf p 128) ≡ untilOpcode p - 1)
 
 -- a 128 that does not complete the frame
-steps-by : (p q : Partial) → pushOf p 128 ≡ record { partial = q; complete = false } → 1 < waits p → waits q ≡ waits p - 1 → Steps p
+steps-by : (p q : Partial) → pushOf p 128 ≡ record { partial = q; complete = false } → 1 < untilOpcode p → untilOpcode q ≡ untilOpcode p - 1 → Steps p
 steps-by p q e h w =
-    (ap (λ (x : Pushed). x .complete) e ∙ sym (lt-leb (waits p) 1 h), ap waits (next-more p 128 _ e refl) ∙ w)
+    (ap (λ (x : Pushed). x .complete) e ∙ sym (lt-leb (untilOpcode p) 1 h), ap untilOpcode (next-more p 128 _ e refl) ∙ w)
 
 -- the partial frame is in its header, past the opcode
 module _ (p : Partial) (t : T (reachableOf p)) (z : p .remaining ≡ 0) (h : 0 < p .count) (a : p .count < headerOf (p .bytes)) where
   opcode-small : getD (p .bytes) 0 0 < 256
   opcode-small = byte-at (p .bytes) (places-of p t .small) 0
 
-  waits-now : waits p ≡ headerOf (p .bytes) - p .count + body128 (lengthOf (p .bytes))
-  waits-now = waits-header p opcode-small z h a
+  until-opcode-now : untilOpcode p ≡ headerOf (p .bytes) - p .count + body128 (lengthOf (p .bytes))
+  until-opcode-now = until-opcode-header p opcode-small z h a
 
   abbrev after128 : List ℕ
   after128 = set (p .bytes) (p .count) 128
@@ -124,17 +124,17 @@ module _ (p : Partial) (t : T (reachableOf p)) (z : p .remaining ≡ 0) (h : 0 <
   -- another byte of the header is waited for
   steps-header-more : p .count + 1 < headerOf (p .bytes) → Steps p
   steps-header-more m =
-      let w = waits-now in
+      let w = until-opcode-now in
       let q = grown p 128 (p .remaining) in
       let b : getD after128 0 0 < 256 = rw (opcode-set (p .bytes) (p .count) 128 h) opcode-small in
       let l : p .count + 1 < headerOf after128 = rw same-length m in
       steps-by p q (pushed ∙ measure-waits q l) (omega arith)
-      (waits-header q b z (omega arith) l ∙ ap (λ (n : Length). headerSize n - (p .count + 1) + body128 n) same-length ∙ omega arith)
+      (until-opcode-header q b z (omega arith) l ∙ ap (λ (n : Length). headerSize n - (p .count + 1) + body128 n) same-length ∙ omega arith)
 
   -- the 128 is the count byte
   steps-count : p .count + 1 ≡ headerOf (p .bytes) → Steps p
   steps-count m =
-      let w = waits-now in
+      let w = until-opcode-now in
       let le = header-le (lengthOf (p .bytes)) in
       let long = places-of p t .long in
       let r = body128-range (lengthOf (p .bytes)) (omega arith) in
@@ -146,14 +146,14 @@ module _ (p : Partial) (t : T (reachableOf p)) (z : p .remaining ≡ 0) (h : 0 <
       (pushed ∙ measure-known (grown p 128 (p .remaining)) l
       ∙ ap (λ (c : Bool). record { partial = grown p 128 n; complete = c }) (pos-eqb n (omega arith)))
       (omega arith)
-      (waits-remaining (grown p 128 n) (omega arith) ∙ omega arith)
+      (until-opcode-remaining (grown p 128 n) (omega arith) ∙ omega arith)
 
   steps-header : Steps p
   steps-header = let x : p .count + 1 ≤ headerOf (p .bytes) = omega arith in ⊎-elim steps-count steps-header-more (eq-or-lt-of-le x)
 
-  waits-header-le : waits p ≤ 258
-  waits-header-le =
-      let w = waits-now in
+  until-opcode-header-le : untilOpcode p ≤ 258
+  until-opcode-header-le =
+      let w = until-opcode-now in
       let le = header-le (lengthOf (p .bytes)) in
       let r = body128-range (lengthOf (p .bytes)) (omega arith) in
       omega arith
@@ -161,17 +161,17 @@ module _ (p : Partial) (t : T (reachableOf p)) (z : p .remaining ≡ 0) (h : 0 <
 -- ---- a 128 anywhere
 
 steps-empty : Steps emptyPartial
-unfolding waits nextOf dataLength bodySizeAs
+unfolding untilOpcode nextOf dataLength bodySizeAs
 steps-empty = (refl, refl)
 
 -- a byte of the body, of any partial frame
 steps-body : (p : Partial) → 0 < p .remaining → Steps p
 steps-body p h =
-    let w = waits-remaining p h in
+    let w = until-opcode-remaining p h in
     let r = next-remaining p 128 h in (
       ap (λ (x : Pushed). x .complete) (push-body p 128 h) ∙ one-or-less (p .remaining) h ∙ ap (λ (m : ℕ). leb m 1) (sym w),
-      ⊎-elim (λ (e : 1 ≡ p .remaining). ap waits (next-last p 128 (sym e)) ∙ waits-empty ∙ omega arith)
-          (λ (m : 1 < p .remaining). waits-remaining (nextOf p 128) (omega arith) ∙ omega arith)
+      ⊎-elim (λ (e : 1 ≡ p .remaining). ap untilOpcode (next-last p 128 (sym e)) ∙ until-opcode-empty ∙ omega arith)
+          (λ (m : 1 < p .remaining). until-opcode-remaining (nextOf p 128) (omega arith) ∙ omega arith)
           (eq-or-lt-of-le h),
     )
 
@@ -186,20 +186,20 @@ steps p t = at (position-of p t)
 -- ---- which bytes of a run are opcodes
 
 -- the next byte is an opcode exactly where none is waited for
-begins-waits : (p : Partial) → T (reachableOf p) → beginsFrame p ≡ leb (waits p) 0
-begins-waits p t = at (position-of p t)
+begins-until-opcode : (p : Partial) → T (reachableOf p) → beginsFrame p ≡ leb (untilOpcode p) 0
+begins-until-opcode p t = at (position-of p t)
   where
-    at : Position p → beginsFrame p ≡ leb (waits p) 0
-    at (at-start e) = subst (λ (q : Partial). beginsFrame q ≡ leb (waits q) 0) (sym e) (ap (λ (n : ℕ). leb n 0) (sym waits-empty))
-    at (past-opcode z h a) = let w = waits-now p t z h a in simp (eq-eqb _ _ z, pos-eqb _ h) (sym (lt-leb (waits p) 0 (omega arith)))
-    at (in-body h) = let w = waits-remaining p h in simp (pos-eqb _ h) (sym (lt-leb (waits p) 0 (omega arith)))
+    at : Position p → beginsFrame p ≡ leb (untilOpcode p) 0
+    at (at-start e) = subst (λ (q : Partial). beginsFrame q ≡ leb (untilOpcode q) 0) (sym e) (ap (λ (n : ℕ). leb n 0) (sym until-opcode-empty))
+    at (past-opcode z h a) = let w = until-opcode-now p t z h a in simp (eq-eqb _ _ z, pos-eqb _ h) (sym (lt-leb (untilOpcode p) 0 (omega arith)))
+    at (in-body h) = let w = until-opcode-remaining p h in simp (pos-eqb _ h) (sym (lt-leb (untilOpcode p) 0 (omega arith)))
 
-pub opcode-at : (n k : ℕ) (p : Partial) → T (reachableOf p) → k < n → getD (opcodes p (replicate n 128)) k false ≡ leb (waits p) k
+pub opcode-at : (n k : ℕ) (p : Partial) → T (reachableOf p) → k < n → getD (opcodes p (replicate n 128)) k false ≡ leb (untilOpcode p) k
 opcode-at zero k p t a = absurd (omega arith)
-opcode-at (suc n) zero p t a = begins-waits p t
+opcode-at (suc n) zero p t a = begins-until-opcode p t
 opcode-at (suc n) (suc k) p t a =
     opcode-at n k (nextOf p 128) (next-reachable p 128 t (omega arith)) (le-of-suc-le-suc a)
-    ∙ ap (λ (m : ℕ). leb m k) (steps p t .1) ∙ leb-pred (waits p) k
+    ∙ ap (λ (m : ℕ). leb m k) (steps p t .1) ∙ leb-pred (untilOpcode p) k
 
 -- ---- how long that is at most
 
@@ -211,10 +211,10 @@ remaining-le p t = at (stage-of p t)
     at (storing a h r k e) = let b = body-le (p .bytes) (places-of p t .small) in omega arith
     at (skipping h r k e) = let b = body-le (p .bytes) (places-of p t .small) in omega arith
 
-pub waits-le : (p : Partial) → T (reachableOf p) → waits p ≤ 510
-waits-le p t = at (position-of p t)
+pub until-opcode-le : (p : Partial) → T (reachableOf p) → untilOpcode p ≤ 510
+until-opcode-le p t = at (position-of p t)
   where
-    at : Position p → waits p ≤ 510
-    at (at-start e) = let w = ap waits e ∙ waits-empty in omega arith
-    at (past-opcode z h a) = let w = waits-header-le p t z h a in omega arith
-    at (in-body h) = let w = waits-remaining p h in let l = remaining-le p t in omega arith
+    at : Position p → untilOpcode p ≤ 510
+    at (at-start e) = let w = ap untilOpcode e ∙ until-opcode-empty in omega arith
+    at (past-opcode z h a) = let w = until-opcode-header-le p t z h a in omega arith
+    at (in-body h) = let w = until-opcode-remaining p h in let l = remaining-le p t in omega arith

@@ -88,4 +88,4 @@ abbrev pub countRight : ℕ → Bool
 countRight n =
     all (λ op. announces (op ∷ []) n n (leb n 16)) (148 ∷ 149 ∷ [])
     && (announces (152 ∷ []) n n false
-    && all (λ number. announces (140 ∷ number ∷ []) n (2 * n) (leb n 16)) (0 ∷ 255 ∷ []))
+    && all (λ song. announces (140 ∷ song ∷ []) n (2 * n) (leb n 16)) (0 ∷ 255 ∷ []))

@@ -10,7 +10,7 @@ use Rattle.wire.specs.Lists.{all, allFrom, snoc, allBytes}
 use Rattle.frame.specs.FrameTable.{dataLength, dataBytes}
 use Rattle.frame.specs.Push.{headerOf, frameSize, storesBody, pushOf, stored, emptyPartial, nextOf, afterOf, beginsFrame, opcodes, completed}
 use Rattle.frame.specs.Reach.{isArray, reachableOf}
-use Rattle.frame.specs.RunTable.{runTable, waits, rowRuns}
+use Rattle.frame.specs.RunTable.{runTable, untilOpcode, rowRuns}
 use Rattle.frame.specs.Cases.{frameCases, caseRight, opcodeRight, countRight}
 use Rattle.frame.specs.declared.Partial.{Partial}
 
@@ -88,17 +88,17 @@ pub record ReachableExact : Type 0 where
   pub places-le : (p : Partial) → T (reachableOf p) → p .count ≤ 34
 
 -- THEOREM: the run of 128s
-pub record RunOf128s : Type 0 where
+pub record RunTableRight : Type 0 where
   -- each row of the run table, run
   pub rows-run : T (all rowRuns runTable)
   -- every byte keeps `reachableOf`
   pub stays-reachable : (p : Partial) (b : ℕ) → T (reachableOf p) → b < 256 → T (reachableOf (nextOf p b))
   -- a 128 takes n to n - 1, and 0 stays 0
-  pub one-less : (p : Partial) → T (reachableOf p) → waits (nextOf p 128) ≡ waits p - 1
+  pub one-less : (p : Partial) → T (reachableOf p) → untilOpcode (nextOf p 128) ≡ untilOpcode p - 1
   -- and completes the frame exactly where that was at most 1
-  pub completes : (p : Partial) → T (reachableOf p) → pushOf p 128 .complete ≡ leb (waits p) 1
-  -- of n bytes 128, byte k, counted from 0, is read as an opcode exactly when `waits` is at most k
-  pub opcode-at : (n k : ℕ) (p : Partial) → T (reachableOf p) → k < n → getD (opcodes p (replicate n 128)) k false ≡ leb (waits p) k
+  pub completes : (p : Partial) → T (reachableOf p) → pushOf p 128 .complete ≡ leb (untilOpcode p) 1
+  -- of n bytes 128, byte k, counted from 0, is read as an opcode exactly when `untilOpcode` is at most k
+  pub opcode-at : (n k : ℕ) (p : Partial) → T (reachableOf p) → k < n → getD (opcodes p (replicate n 128)) k false ≡ leb (untilOpcode p) k
   -- at most 510 bytes remain, so that 511 bytes are enough
   pub remaining-le : (p : Partial) → T (reachableOf p) → p .remaining ≤ 510
   pub enough : (p : Partial) → T (reachableOf p) → getD (opcodes p (replicate 511 128)) 510 false ≡ true

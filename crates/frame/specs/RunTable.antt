@@ -47,8 +47,8 @@ named [] p = 1
 named (r ∷ rs) p = cond (isAt (r .progress) p) (r .byte (p .remaining)) (named rs p)
 
 -- the bytes of a run of 128s that come before the byte named
-unfoldable pub waits : Partial → ℕ
-waits p = named runTable p - 1
+unfoldable pub untilOpcode : Partial → ℕ
+untilOpcode p = named runTable p - 1
 
 -- ---- the table against the cut: each row is run
 

@@ -119,26 +119,26 @@ pub fn with_infrared(state: State, code: u8) -> State
 }
 
 // There is none of 16 and above.
-pub fn with_song(state: State, number: u8, len: u8, notes: [u8; 32]) -> State
-    ensures { λ r. ⌜ r ≡ withSong number (record { len = len; notes = notes }) state ⌝ }
+pub fn with_song(state: State, song: u8, len: u8, notes: [u8; 32]) -> State
+    ensures { λ r. ⌜ r ≡ withSong song (record { len = len; notes = notes }) state ⌝ }
 {
-    if number > command::LAST_SONG {
+    if song > command::LAST_SONG {
         return state;
     }
-    let song = Song { len, notes };
+    let new = Song { len, notes };
     let mut songs = state.songs;
     let mut table = songs.table;
-    table[number as usize] = song;
+    table[song as usize] = new;
     songs.table = table;
     with_songs(state, songs)
 }
 
 // Selected, and playing.
-pub fn with_played(state: State, number: u8) -> State
-    ensures { λ r. ⌜ r ≡ withPlaying 1 (withSelected number state) ⌝ }
+pub fn with_played(state: State, song: u8) -> State
+    ensures { λ r. ⌜ r ≡ withPlaying 1 (withSelected song state) ⌝ }
 {
     let mut songs = state.songs;
-    songs.selected = number;
+    songs.selected = song;
     songs.playing = crate::YES;
     with_songs(state, songs)
 }

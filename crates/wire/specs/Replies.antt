@@ -33,7 +33,7 @@ pub record Replied (reply : ℕ → Reply) (before after : List ℕ) (result : S
   pub buffer : after ≡ leftIn (reply (length before)) before
 
 -- what is told of a call that writes these bytes where its data are legal
-pub record ReplyTells (legal : Bool) (bytes before after : List ℕ) (result : Sent) : Type 0 where
+pub record ReplyFacts (legal : Bool) (bytes before after : List ℕ) (result : Sent) : Type 0 where
   -- each number exactly in its case
   pub number-4 : legal ≡ false → result .number ≡ 4
   pub number-7 : legal ≡ true → length before < length bytes → result .number ≡ 7
@@ -50,4 +50,4 @@ pub record ReplyTells (legal : Bool) (bytes before after : List ℕ) (result : S
 abbrev pub RepliesTell : Type 0
 RepliesTell =
     (legal : Bool) (bytes before after : List ℕ) (result : Sent) → Replied (replyOf legal bytes) before after result
-    → ReplyTells legal bytes before after result
+    → ReplyFacts legal bytes before after result

@@ -19,7 +19,7 @@ use Rattle.command.specs.declared.Command.the-variants as cmd
 use Rattle.command.proofs.VariantLaws.{of-tags}
 use Rattle.board.specs.Outcome.{Outcome}
 use Rattle.board.specs.Judge.{Needs, nothing, aSong, packets, statusOf, effectOf}
-use Rattle.board.proofs.LegalLaws.{play-number, sensors-listable, query-short, query-listable}
+use Rattle.board.proofs.LegalLaws.{play-song, sensors-listable, query-short, query-listable}
 use Rattle.board.proofs.OutcomeLaws.{sent-as, sent-gives, sent-fitted}
 use Rattle.board.proofs.JudgeLaws.{carried, carried-plain, carried-unset, carried-busy, carried-play, carried-sensors, carried-query}
 use Rattle.board.proofs.carry_out.Statement.{statement}
@@ -41,23 +41,23 @@ module _ (c : tie.Start) where
 
 is-set-requires : tie.Need-is-set-requires
 is-set-requires c κs =
-    let told = c .before .before .command .given in
+    let given = c .before .before .command .given in
     let begun = c .before .before .before .before .before .before in
-    play-number (told .0 .0) (begun .args .message .payload) (legal begun (told .1))
+    play-song (given .0 .0) (begun .args .message .payload) (legal begun (given .1))
 
 -- the song that is asked for
 module _ (c : tie.After-is-set) where
   abbrev begun : tie.Start
   begun = c .before .before .before .before .before .before .before
 
-  abbrev number : ℕ
-  number = c .before .before .before .command .given .0 .0
+  abbrev song : ℕ
+  song = c .before .before .before .command .given .0 .0
 
-  abbrev plays : begun .args .message .command ≡ cmd.Play number
+  abbrev plays : begun .args .message .command ≡ cmd.Play song
   plays = c .before .before .before .command .given .1
 
   -- what is left of the rules is what the song's case gives
-  left-play : {x : Outcome} → left begun (cmd.Play number) ≡ x → left begun (begun .args .message .command) ≡ x
+  left-play : {x : Outcome} → left begun (cmd.Play song) ≡ x → left begun (begun .args .message .command) ≡ x
   left-play e = left-as begun plays ∙ e
 
 returns : tie.Need-returns
@@ -66,7 +66,7 @@ returns c =
     let a = begun set .args in
     sent-gives (a .state) (a .buffer .now)
     (left-play set
-    (carried-unset (a .state) (a .message .payload) (a .image .now) (length (a .buffer .now)) (number set)
+    (carried-unset (a .state) (a .message .payload) (a .image .now) (length (a .buffer .now)) (song set)
     (sym (set .is-set .ensures) ∙ not-true _ (c .before .if1 .taken))))
     (c .refuse .ensures)
 
@@ -77,7 +77,7 @@ returns-2 c =
     let a = begun set .args in
     sent-gives (a .state) (a .buffer .now)
     (left-play set
-    (carried-busy (a .state) (a .message .payload) (a .image .now) (length (a .buffer .now)) (number set)
+    (carried-busy (a .state) (a .message .payload) (a .image .now) (length (a .buffer .now)) (song set)
     (sym (set .is-set .ensures) ∙ not-false _ (test .if1 .left)) (eq-eqb _ _ (c .before .if2 .taken))))
     (c .refuse2 .ensures)
 
@@ -89,7 +89,7 @@ returns-3 c =
     let a = begun set .args in
     sent-gives _ (a .buffer .now)
     (left-play set
-    (carried-play (a .state) (a .message .payload) (a .image .now) (length (a .buffer .now)) (number set)
+    (carried-play (a .state) (a .message .payload) (a .image .now) (length (a .buffer .now)) (song set)
     (sym (set .is-set .ensures) ∙ not-false _ (test .if1 .left)) (ne-eqb _ _ (busy .if2 .left))))
     (c .done .ensures)
 
@@ -100,23 +100,23 @@ returns-4 c =
     let answer = c .before .before in
     let status = answer .before .before in
     let known = status .before .before in
-    let told = known .before .command2 .given in
+    let given = known .before .command2 .given in
     let begun = known .before .before .before .before .before in
     let a = begun .args in
-    let id = told .0 .0 in
-    sent-as (a .buffer .now) (left-as begun (told .1) ∙ carried-sensors (a .state) (a .message .payload) (a .image .now) (length (a .buffer .now)) id)
+    let id = given .0 .0 in
+    sent-as (a .buffer .now) (left-as begun (given .1) ∙ carried-sensors (a .state) (a .message .payload) (a .image .now) (length (a .buffer .now)) id)
     (sent-fitted (answerBytes (statusOf (a .state)) (a .image .now) (id ∷ [])) (a .buffer .now) (a .state)
-    (sensors-listable id (a .message .payload) (legal begun (told .1))) (rw (status .status-of .ensures) at (answer .answer .ensures)))
+    (sensors-listable id (a .message .payload) (legal begun (given .1))) (rw (status .status-of .ensures) at (answer .answer .ensures)))
 
 -- ---- 149
 
 part-answer-end : tie.Need-part-answer-end
 part-answer-end c =
-    let told = c .before .before .command3 .given in
+    let given = c .before .before .command3 .given in
     let begun = c .before .before .before .before .before .before in
     let l : length (begun .args .message .payload) ≡ 32 = search needs in
-    let n = query-short (told .0 .0) (begun .args .message .payload) (legal begun (told .1)) in
-    let x : told .0 .0 ≤ length (begun .args .message .payload) = omega arith in
+    let n = query-short (given .0 .0) (begun .args .message .payload) (legal begun (given .1)) in
+    let x : given .0 .0 ≤ length (begun .args .message .payload) = omega arith in
     x
 
 returns-5 : tie.Need-returns-5
@@ -124,14 +124,14 @@ returns-5 c =
     let answer = c .before .before in
     let status = answer .before .before in
     let known = status .before .before .before in
-    let told = known .before .command3 .given in
+    let given = known .before .command3 .given in
     let begun = known .before .before .before .before .before in
     let a = begun .args in
-    let n = told .0 .0 in
+    let n = given .0 .0 in
     let p = a .message .payload in
-    sent-as (a .buffer .now) (left-as begun (told .1) ∙ carried-query (a .state) p (a .image .now) (length (a .buffer .now)) n)
+    sent-as (a .buffer .now) (left-as begun (given .1) ∙ carried-query (a .state) p (a .image .now) (length (a .buffer .now)) n)
     (sent-fitted (answerBytes (statusOf (a .state)) (a .image .now) (take n p)) (a .buffer .now) (a .state)
-    (query-listable n p (legal begun (told .1))) (rw (status .status-of2 .ensures, sub-zero n) at (answer .answer2 .ensures)))
+    (query-listable n p (legal begun (given .1))) (rw (status .status-of2 .ensures, sub-zero n) at (answer .answer2 .ensures)))
 
 -- ---- all others
 

@@ -16,7 +16,7 @@ returns c =
     let begun = c .before in
     let x = begun .args .songs in
     let sixteen : length (x .table) ≡ 16 = sym (length-map (x .table) _) ∙ begun .good .0 .1 .1 .0 .1 .0 .1 in
-    ap isSet (getD-any (x .table) (begun .args .number) (record { len = 0; notes = [] }) unset (omega (arith, begun .pre, sixteen)))
+    ap isSet (getD-any (x .table) (begun .args .song) (record { len = 0; notes = [] }) unset (omega (arith, begun .pre, sixteen)))
 
 pub is-set-spec : {M : Type 1} → statement M
 is-set-spec = tie.close (tie.spec (λ c. search needs) (λ c. search needs) returns)

@@ -134,9 +134,9 @@ returns-13 c =
     sym (le-leb (e .0 .0) 255 (omega arith)) ∙ byte-legal 255 _ ∙ legal-as (asked (c .before .before .before)) (e .1)
 
 -- a song's number and length, as they are tested
-song : (c : tie.After-used) {number notes : ℕ} → asked c .command ≡ Song number notes → (leb number 15 && (leb 1 notes && leb notes 16)) ≡ legalOf (asked c)
-song c {number} {notes} e =
-    sym (song-is number notes (asked c .payload) (any-notes (c .before .before .before .before))) ∙ legal-as (asked c) e
+song : (c : tie.After-used) {n notes : ℕ} → asked c .command ≡ Song n notes → (leb n 15 && (leb 1 notes && leb notes 16)) ≡ legalOf (asked c)
+song c {n} {notes} e =
+    sym (song-is n notes (asked c .payload) (any-notes (c .before .before .before .before))) ∙ legal-as (asked c) e
 
 returns-14 : tie.Need-returns-14
 returns-14 c =

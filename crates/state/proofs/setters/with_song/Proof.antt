@@ -17,7 +17,7 @@ sixteen c = sym (length-map (c .args .state .songs .table) _) ∙ c .good .0 .1 
 returns : tie.Need-returns
 returns c =
     let s = c .before .args .state in
-    let out = set-out (s .songs .table) (c .before .args .number) _ (omega (arith, sixteen (c .before))) in
+    let out = set-out (s .songs .table) (c .before .args .song) _ (omega (arith, sixteen (c .before))) in
     ap (λ (l : List Song). withSongs (record { table = l; selected = s .songs .selected; playing = s .songs .playing }) s) (sym out)
 
 pub with-song-spec : {M : Type 1} → statement M
