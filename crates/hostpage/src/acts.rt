@@ -73,7 +73,7 @@ fn write(page: Page, message: Message) -> Page {
 
 // The command of an opcode, with its values from a place on.
 fn send(page: Page, op: u8, text: &[u8], from: usize) -> Page {
-    let typed = words::message_from(op, text, from, page.line);
+    let typed = words::message_from(op, text, from, page.line_number);
     if !typed.ok {
         return page;
     }
@@ -145,7 +145,7 @@ fn with_one(page: Page, act: usize, value: u8) -> Page {
 
 // The acts that take bytes.
 fn with_bytes(page: Page, act: usize, text: &[u8], from: usize) -> Page {
-    let read = bytes_from(text, from, page.line);
+    let read = bytes_from(text, from, page.line_number);
     if !read.ok {
         return page;
     }
@@ -192,7 +192,7 @@ fn by_name(page: Page, text: &[u8], start: usize, word: &[u8], end: usize) -> Pa
     if act < 5 {
         return with_bytes(page, act, text, end);
     }
-    if !ends(text, end, page.line) {
+    if !ends(text, end, page.line_number) {
         return page;
     }
     alone(page, act)

@@ -99,8 +99,8 @@ fn say_part(bytes: &[u8], from: usize, size: usize) {
 }
 
 // Bytes, or those of them that a place and a count pick.
-fn say_picked(bytes: &[u8], number: usize, text: &[u8], from: usize) {
-    let read = bytes_from(text, from, number);
+fn say_picked(bytes: &[u8], line_number: usize, text: &[u8], from: usize) {
+    let read = bytes_from(text, from, line_number);
     if !read.ok {
         return;
     }
@@ -132,7 +132,7 @@ fn say_check(chunk: &[u8]) {
 }
 
 // The fields that are bytes.
-fn say_listed(page: Page, name: usize, number: usize, text: &[u8], from: usize) {
+fn say_listed(page: Page, name: usize, line_number: usize, text: &[u8], from: usize) {
     let given = page.given;
     let end = within(page.end, &given);
     let all = &given[0..end];
@@ -140,9 +140,9 @@ fn say_listed(page: Page, name: usize, number: usize, text: &[u8], from: usize) 
     let answer = page.answer;
     let n = within(page.length, &answer);
     match name {
-        0 => say_picked(&all[start..], number, text, from),
-        1 => say_picked(&all[0..start], number, text, from),
-        2 => say_picked(&answer[0..n], number, text, from),
+        0 => say_picked(&all[start..], line_number, text, from),
+        1 => say_picked(&all[0..start], line_number, text, from),
+        2 => say_picked(&answer[0..n], line_number, text, from),
         _ => say_check(&answer[0..n]),
     }
 }
@@ -205,7 +205,7 @@ fn say_left(page: Page, name: usize) {
 }
 
 // A field by its name: 0 to 3 are bytes, 4 and 5 speak of the command, 15 is the row's own.
-fn field(page: Page, number: usize, text: &[u8], from: usize, rest: &[u8]) {
+fn field(page: Page, line_number: usize, text: &[u8], from: usize, rest: &[u8]) {
     let word = line::next_word(text, from);
     let start = word.start;
     let end = word.end;
@@ -214,14 +214,14 @@ fn field(page: Page, number: usize, text: &[u8], from: usize, rest: &[u8]) {
         b"sent before answer check value modes data written number length room was mode motors stop rest",
     );
     if name >= 16 {
-        say_fault(number, start, Fault::Field);
+        say_fault(line_number, start, Fault::Field);
         return;
     }
     if name < 4 {
-        say_listed(page, name, number, text, end);
+        say_listed(page, name, line_number, text, end);
         return;
     }
-    if !ends(text, end, number) {
+    if !ends(text, end, line_number) {
         return;
     }
     match name {
@@ -235,7 +235,7 @@ fn field(page: Page, number: usize, text: &[u8], from: usize, rest: &[u8]) {
 }
 
 // A line with its fields filled in, from a place on.
-pub fn fill(page: Page, number: usize, text: &[u8], from: usize, rest: &[u8]) {
+pub fn fill(page: Page, line_number: usize, text: &[u8], from: usize, rest: &[u8]) {
     let mut at = within(from, text);
     while at < text.len() {
         let open = find(text, at, b'{');
@@ -245,10 +245,10 @@ pub fn fill(page: Page, number: usize, text: &[u8], from: usize, rest: &[u8]) {
         }
         let close = find(text, open, b'}');
         if close == text.len() {
-            say_fault(number, open, Fault::Brace);
+            say_fault(line_number, open, Fault::Brace);
             break;
         }
-        field(page, number, &text[0..close], open + 1, rest);
+        field(page, line_number, &text[0..close], open + 1, rest);
         at = close + 1;
     }
     mark(b'\n');

@@ -44,7 +44,7 @@ fn set_form(page: Page, text: &[u8]) -> Page {
     let mut next = page;
     next.form = form;
     next.form_size = text.len();
-    next.form_line = page.line;
+    next.form_line_number = page.line_number;
     next
 }
 
@@ -59,7 +59,13 @@ fn row(page: Page, text: &[u8], from: usize) -> Page {
     let start = cells.start;
     let form = next.form;
     let size = within(next.form_size, &form);
-    fill(next, next.form_line, &form[0..size], 6, &text[start..]);
+    fill(
+        next,
+        next.form_line_number,
+        &form[0..size],
+        6,
+        &text[start..],
+    );
     next
 }
 
@@ -87,16 +93,16 @@ fn take(page: Page, line: &[u8], size: usize, cut: bool) -> Page {
     if text.len() > 0 && text[0] == b'@' {
         return direct(page, text);
     }
-    fill(page, page.line, text, 0, b"");
+    fill(page, page.line_number, text, 0, b"");
     page
 }
 
 // How the reading ended, where that was not well.
-fn finish(number: usize, came: u8) {
+fn finish(line_number: usize, came: u8) {
     if came == terminal::FAILED {
-        say_where(number, 0);
+        say_where(line_number, 0);
         say(b"the template cannot be read further\n");
-    } else if number == 0 {
+    } else if line_number == 0 {
         say(b"there is no template: nothing was read\n");
     }
 }
@@ -113,10 +119,10 @@ fn main() {
         let rest = got.input;
         input = rest;
         if got.came != terminal::LINE {
-            finish(input.number, got.came);
+            finish(input.line_number, got.came);
             break;
         }
-        page.line = input.number;
+        page.line_number = input.line_number;
         page = take(page, line, got.size, got.cut);
         turns -= 1;
     }

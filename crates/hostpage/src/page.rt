@@ -16,8 +16,8 @@ pub struct Page {
     pub given: [u8; 512],
     pub image: [u8; 40],
     pub form_size: usize,
-    pub form_line: usize,
-    pub line: usize,
+    pub form_line_number: usize,
+    pub line_number: usize,
     pub room: usize,
     pub from: usize,
     pub end: usize,
@@ -52,8 +52,8 @@ pub fn blank() -> Page {
         length: 0,
         form: [0u8; 256],
         form_size: 0,
-        form_line: 0,
-        line: 0,
+        form_line_number: 0,
+        line_number: 0,
     }
 }
 
@@ -101,14 +101,14 @@ fn say_why(fault: Fault) {
 }
 
 // A message with its line and place.
-pub fn say_fault(number: usize, place: usize, fault: Fault) {
-    say_where(number, place);
+pub fn say_fault(line_number: usize, place: usize, fault: Fault) {
+    say_where(line_number, place);
     say_why(fault);
 }
 
 // A bad line or act is told, and changes nothing.
 pub fn bad(page: Page, place: usize, fault: Fault) -> Page {
-    say_fault(page.line, place, fault);
+    say_fault(page.line_number, place, fault);
     page
 }
 

@@ -7,10 +7,10 @@ use Rattle.hostpage.proofs.fields.fill.Statement.{statement}
 use Rattle.hostpage.proofs.fields.fill.Tie as tie
 
 abbrev Inv-loop : tie.InvT-loop
-Inv-loop page number text from rest at₀ at = at ≤ length text
+Inv-loop page line_number text from rest at₀ at = at ≤ length text
 
 abbrev μ-loop : tie.MeasureT-loop
-μ-loop page number text from rest at₀ at = length text - at
+μ-loop page line_number text from rest at₀ at = length text - at
 
 pub fill-spec : {M : Type 1} → statement M
 fill-spec =
