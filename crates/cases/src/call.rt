@@ -88,7 +88,7 @@ fn plain(kind: u8, room: usize, ok: bool) -> Call {
     }
 }
 
-fn report_of(text: &[u8], from: usize, number: usize) -> Call {
+fn report_of(text: &[u8], from: usize, line_number: usize) -> Call {
     let mut call = plain(REPORT, 0, true);
     let mut at = from;
     let mut turns = text.len();
@@ -104,7 +104,7 @@ fn report_of(text: &[u8], from: usize, number: usize) -> Call {
         turns -= 1;
     }
     if !call.ok {
-        say_where(number, from);
+        say_where(line_number, from);
         say(b"a report has the words drop, cliff and charger\n");
     }
     call
@@ -121,8 +121,8 @@ fn flagged(call: Call, flag: usize) -> Call {
     next
 }
 
-fn run_of(text: &[u8], from: usize, number: usize, room: usize) -> Call {
-    let read = bytes_from(text, from, number);
+fn run_of(text: &[u8], from: usize, line_number: usize, room: usize) -> Call {
+    let read = bytes_from(text, from, line_number);
     let bytes = read.values;
     let mut call = plain(RUN, room, read.ok);
     call.bytes = bytes;
@@ -131,31 +131,31 @@ fn run_of(text: &[u8], from: usize, number: usize, room: usize) -> Call {
 }
 
 // A call with this room: tick, song-end, report with any of its words, or numbers for one run over them.
-fn call_with(text: &[u8], from: usize, number: usize, room: usize) -> Call {
+fn call_with(text: &[u8], from: usize, line_number: usize, room: usize) -> Call {
     let word = line::next_word(text, from);
     let start = word.start;
     let end = word.end;
     let kind = which(&text[start..end], b"tick song-end report");
     match kind {
-        0 => plain(TICK, room, ends(text, end, number)),
-        1 => plain(SONG_END, room, ends(text, end, number)),
-        2 => report_of(text, end, number),
-        _ => run_of(text, from, number, room),
+        0 => plain(TICK, room, ends(text, end, line_number)),
+        1 => plain(SONG_END, room, ends(text, end, line_number)),
+        2 => report_of(text, end, line_number),
+        _ => run_of(text, from, line_number, room),
     }
 }
 
-fn call_from(text: &[u8], from: usize, number: usize) -> Call {
+fn call_from(text: &[u8], from: usize, line_number: usize) -> Call {
     let word = line::next_word(text, from);
     let start = word.start;
     let end = word.end;
     if !wire::same(&text[start..end], b"room") {
-        return call_with(text, from, number, ROOM);
+        return call_with(text, from, line_number, ROOM);
     }
-    let room = part_from(text, end, 301, number);
+    let room = part_from(text, end, 301, line_number);
     if !room.ok {
         return plain(RUN, 0, false);
     }
-    call_with(text, room.next, number, room.bits)
+    call_with(text, room.next, line_number, room.bits)
 }
 
 // The bytes that an answer wrote.
@@ -195,9 +195,15 @@ pub fn say_result(
 }
 
 // case START | CALL | PLACE; gives the record after it, or the one before it where the call is bad.
-pub fn case(widths: [u8; 512], number: usize, before: State, text: &[u8], cells: Cells) -> State {
+pub fn case(
+    widths: [u8; 512],
+    line_number: usize,
+    before: State,
+    text: &[u8],
+    cells: Cells,
+) -> State {
     let end = within(cells.two, text);
-    let call = call_from(&text[0..end], plus(cells.one, 1), number);
+    let call = call_from(&text[0..end], plus(cells.one, 1), line_number);
     if !call.ok {
         return before;
     }

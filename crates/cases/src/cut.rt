@@ -67,7 +67,7 @@ fn say_cut(session: Session, name: &[u8], bytes: [u8; 600]) -> usize {
 pub fn frame(session: Session, text: &[u8], cells: Cells) -> Session {
     let widths = session.widths;
     let end = within(cells.one, text);
-    let head = bytes_from(&text[0..end], cells.from, session.number);
+    let head = bytes_from(&text[0..end], cells.from, session.line_number);
     if !head.ok {
         return session;
     }

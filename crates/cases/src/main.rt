@@ -48,7 +48,7 @@ fn from_start(session: Session, kind: usize, text: &[u8], cells: Cells) -> Sessi
         4 => with_state(
             session,
             1,
-            call::case(widths, session.number, state, text, cells),
+            call::case(widths, session.line_number, state, text, cells),
         ),
         5 => {
             cut::held(widths, state, text, cells);
@@ -61,7 +61,7 @@ fn from_start(session: Session, kind: usize, text: &[u8], cells: Cells) -> Sessi
         7 => with_state(
             session,
             1,
-            write::write(widths, session.number, state, text, cells),
+            write::write(widths, session.line_number, state, text, cells),
         ),
         _ => {
             speeds::speeds(widths, state, text, cells);
@@ -71,7 +71,7 @@ fn from_start(session: Session, kind: usize, text: &[u8], cells: Cells) -> Sessi
 }
 
 fn by_cells(session: Session, kind: usize, text: &[u8], from: usize) -> Session {
-    let cells = table::cells_of(text, from, session.number);
+    let cells = table::cells_of(text, from, session.line_number);
     if !cells.ok {
         return session;
     }
@@ -88,7 +88,7 @@ fn heading(session: Session, text: &[u8], from: usize) -> Session {
 }
 
 fn unknown(session: Session, word: &[u8], place: usize) -> Session {
-    say_where(session.number, place);
+    say_where(session.line_number, place);
     say_shown(word);
     say(b" is no kind of line\n");
     session
@@ -118,11 +118,11 @@ fn take_line(session: Session, text: &[u8]) -> Session {
     }
 }
 
-fn told(session: Session, text: &[u8], size: usize, cut: bool, number: usize) -> Session {
+fn told(session: Session, text: &[u8], size: usize, cut: bool, line_number: usize) -> Session {
     let mut next = session;
-    next.number = number;
+    next.line_number = line_number;
     if cut {
-        say_where(number, LONGEST);
+        say_where(line_number, LONGEST);
         say(b"the line is longer than 1024 bytes and was not read\n");
         return next;
     }
@@ -130,11 +130,11 @@ fn told(session: Session, text: &[u8], size: usize, cut: bool, number: usize) ->
     take_line(next, &text[0..n])
 }
 
-fn finish(came: u8, number: usize) {
+fn finish(came: u8, line_number: usize) {
     if came == terminal::FAILED {
-        say_where(number, 0);
+        say_where(line_number, 0);
         say(b"after this line the input could not be read\n");
-    } else if number == 0 {
+    } else if line_number == 0 {
         say(b"no input: nothing was read\n");
     }
 }
@@ -150,10 +150,10 @@ fn main() {
         let got = terminal::next_line(input, text);
         input = got.input;
         if got.came != terminal::LINE {
-            finish(got.came, input.number);
+            finish(got.came, input.line_number);
             break;
         }
-        session = told(session, text, got.size, got.cut, input.number);
+        session = told(session, text, got.size, got.cut, input.line_number);
         turns -= 1;
     }
 }

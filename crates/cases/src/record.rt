@@ -74,13 +74,13 @@ fn kept_changes(a: Kept, b: Kept) -> usize {
     )
 }
 
-fn song_changes(number: usize, a: Song, b: Song) -> usize {
+fn song_changes(song: usize, a: Song, b: Song) -> usize {
     let before = a.notes;
     let after = b.notes;
     if a.len == b.len && wire::same(&before, &after) {
         return 0;
     }
-    let named = plus(say(b", song "), say_number(number));
+    let named = plus(say(b", song "), say_number(song));
     plus(named, list(b": ", &after, 2 * wide(b.len)))
 }
 

@@ -23,7 +23,7 @@ pub struct Session {
     pub states: [State; RECORDS],
     pub names: Names,
     pub widths: [u8; 512],
-    pub number: usize,
+    pub line_number: usize,
 }
 
 fn with_text(names: Names, text: &[u8]) -> Names {
@@ -47,7 +47,7 @@ pub fn opened() -> Session {
         states: [state::power_on(); RECORDS],
         names: with_text(none, b"off then "),
         widths: [0u8; 512],
-        number: 0,
+        line_number: 0,
     }
 }
 
@@ -77,7 +77,7 @@ pub fn with_state(session: Session, k: usize, state: State) -> Session {
 }
 
 pub fn set_widths(session: Session, text: &[u8], from: usize) -> Session {
-    let read = bytes_from(text, from, session.number);
+    let read = bytes_from(text, from, session.line_number);
     let widths = read.values;
     let mut next = session;
     if read.ok {
@@ -92,7 +92,7 @@ fn with_record(session: Session, name: &[u8], place: usize, state: State) -> Ses
     let mut more = with_text(with_text(names, name), b" ");
     more.count = plus(k, 1);
     if k != names.count || (k >= RECORDS || more.full) {
-        say_where(session.number, place);
+        say_where(session.line_number, place);
         say(b"the record is named already, or there is no room for it\n");
         return session;
     }

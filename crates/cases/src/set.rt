@@ -58,7 +58,7 @@ pub fn limits_of(setting: usize) -> Limits {
 }
 
 // A number below a limit, from a place on; a limit of 0 reads nothing.
-pub fn part_from(text: &[u8], from: usize, limit: usize, number: usize) -> Part {
+pub fn part_from(text: &[u8], from: usize, limit: usize, line_number: usize) -> Part {
     if limit == 0 {
         return Part {
             value: 0,
@@ -67,12 +67,12 @@ pub fn part_from(text: &[u8], from: usize, limit: usize, number: usize) -> Part 
             ok: true,
         };
     }
-    let read = signed_from(text, from, number, 32767);
+    let read = signed_from(text, from, line_number, 32767);
     let value = read.value;
     let bits = wide(wire::high16(value)) * 256 + wide(wire::low16(value));
     let fits = bits < limit;
     if !fits {
-        say_where(number, from);
+        say_where(line_number, from);
         say(b"the number after this place is too large, or below 0\n");
     }
     Part {

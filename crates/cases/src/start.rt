@@ -35,8 +35,8 @@ pub fn give_byte(state: State, b: u8) -> Answer {
 }
 
 // A number is a byte for the board.
-fn feed(state: State, text: &[u8], from: usize, number: usize) -> Begun {
-    let read = bytes_from(text, from, number);
+fn feed(state: State, text: &[u8], from: usize, line_number: usize) -> Begun {
+    let read = bytes_from(text, from, line_number);
     let values = read.values;
     let answer = give_byte(state, values[0]);
     let next = answer.state;
@@ -48,11 +48,11 @@ fn feed(state: State, text: &[u8], from: usize, number: usize) -> Begun {
 }
 
 // A part of the record, and its numbers.
-fn put(state: State, setting: usize, text: &[u8], from: usize, number: usize) -> Begun {
+fn put(state: State, setting: usize, text: &[u8], from: usize, line_number: usize) -> Begun {
     let limits = limits_of(setting);
-    let place = part_from(text, from, limits.place, number);
-    let inner = part_from(text, place.next, limits.inner, number);
-    let value = part_from(text, inner.next, limits.value, number);
+    let place = part_from(text, from, limits.place, line_number);
+    let inner = part_from(text, place.next, limits.inner, line_number);
+    let value = part_from(text, inner.next, limits.value, line_number);
     let next = set(state, setting, place.bits, inner.bits, value);
     Begun {
         state: next,
@@ -61,19 +61,19 @@ fn put(state: State, setting: usize, text: &[u8], from: usize, number: usize) ->
     }
 }
 
-fn step(state: State, text: &[u8], from: usize, number: usize) -> Begun {
+fn step(state: State, text: &[u8], from: usize, line_number: usize) -> Begun {
     let word = line::next_word(text, from);
     let start = word.start;
     let end = word.end;
     let value = line::signed(&text[start..end]);
     let Number::NotANumber = value else {
-        return feed(state, &text[0..end], start, number);
+        return feed(state, &text[0..end], start, line_number);
     };
     let setting = setting_of(&text[start..end]);
     if setting < SETTINGS {
-        return put(state, setting, text, end, number);
+        return put(state, setting, text, end, line_number);
     }
-    say_where(number, start);
+    say_where(line_number, start);
     say_shown(&text[start..end]);
     say(b" is no part of a record\n");
     Begun {
@@ -83,7 +83,7 @@ fn step(state: State, text: &[u8], from: usize, number: usize) -> Begun {
     }
 }
 
-fn steps(start: State, text: &[u8], from: usize, number: usize) -> Begun {
+fn steps(start: State, text: &[u8], from: usize, line_number: usize) -> Begun {
     let mut state = start;
     let mut at = from;
     let mut ok = true;
@@ -93,7 +93,7 @@ fn steps(start: State, text: &[u8], from: usize, number: usize) -> Begun {
         if word.start == word.end {
             break;
         }
-        let made = step(state, text, at, number);
+        let made = step(state, text, at, line_number);
         state = made.state;
         ok = made.ok;
         at = made.next;
@@ -114,9 +114,9 @@ pub fn start_from(session: Session, text: &[u8], from: usize) -> Begun {
     let k = index_of(names, &text[start..end]);
     let state = state_at(session, k);
     if start < end && k < names.count {
-        return steps(state, text, end, session.number);
+        return steps(state, text, end, session.line_number);
     }
-    say_where(session.number, start);
+    say_where(session.line_number, start);
     say_shown(&text[start..end]);
     say(b" names no record\n");
     Begun {

@@ -27,13 +27,13 @@ fn bar(text: &[u8], from: usize) -> usize {
 }
 
 // The cells from a place on; not ok where the last one is missing, and then it has been said.
-pub fn cells_of(text: &[u8], from: usize, number: usize) -> Cells {
+pub fn cells_of(text: &[u8], from: usize, line_number: usize) -> Cells {
     let one = bar(text, from);
     let two = bar(text, plus(one, 1));
     let last = line::next_word(text, plus(two, 1));
     let ok = last.start < last.end;
     if !ok {
-        say_where(number, text.len());
+        say_where(line_number, text.len());
         say(b"a cell is missing\n");
     }
     Cells { from, one, two, ok }

@@ -46,15 +46,15 @@ fn written(widths: [u8; 512], message: Message, before: State, text: &[u8], cell
 }
 
 // A command by its name and its values, from a cell's first place on.
-fn message_in(text: &[u8], from: usize, number: usize) -> Typed {
+fn message_in(text: &[u8], from: usize, line_number: usize) -> Typed {
     let word = line::next_word(text, from);
     let start = word.start;
     let end = word.end;
     let op = words::opcode_named(&text[start..end]);
     if op != 0 {
-        return words::message_from(op, text, end, number);
+        return words::message_from(op, text, end, line_number);
     }
-    say_where(number, start);
+    say_where(line_number, start);
     say_shown(&text[start..end]);
     say(b" is no command\n");
     let message = command::decode([0u8; 35]);
@@ -62,9 +62,15 @@ fn message_in(text: &[u8], from: usize, number: usize) -> Typed {
 }
 
 // write START | COMMAND | PLACE; gives the record after it, or the one before it where nothing was sent.
-pub fn write(widths: [u8; 512], number: usize, before: State, text: &[u8], cells: Cells) -> State {
+pub fn write(
+    widths: [u8; 512],
+    line_number: usize,
+    before: State,
+    text: &[u8],
+    cells: Cells,
+) -> State {
     let end = within(cells.two, text);
-    let typed = message_in(&text[0..end], plus(cells.one, 1), number);
+    let typed = message_in(&text[0..end], plus(cells.one, 1), line_number);
     let message = typed.message;
     if !typed.ok {
         return before;

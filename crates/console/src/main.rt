@@ -276,7 +276,7 @@ fn read_line(session: Session, text: &[u8]) -> Session {
 fn take_line(session: Session, text: &[u8], next: Line) -> Session {
     let mut now = session;
     let input = next.input;
-    now.number = input.number;
+    now.number = input.line_number;
     if next.cut {
         say_where(now.number, LONGEST);
         say(b"the line is longer than 1024 bytes and was not read\n");

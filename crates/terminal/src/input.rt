@@ -16,7 +16,7 @@ pub struct Input {
     pub block: [u8; 4096],
     pub from: usize,
     pub end: usize,
-    pub number: usize,
+    pub line_number: usize,
     pub over: u8,
 }
 
@@ -34,7 +34,7 @@ pub fn open() -> Input {
         block: [0u8; 4096],
         from: 0,
         end: 0,
-        number: 0,
+        line_number: 0,
         over: LINE,
     }
 }
@@ -58,7 +58,7 @@ fn filled(input: Input) -> Input {
         block,
         from: 0,
         end,
-        number: input.number,
+        line_number: input.line_number,
         over: over_by(got),
     }
 }
@@ -67,8 +67,8 @@ fn filled(input: Input) -> Input {
 fn counted(input: Input, from: usize) -> Input {
     let mut next = input;
     next.from = from;
-    if next.number < 1000000000 {
-        next.number = next.number + 1;
+    if next.line_number < 1000000000 {
+        next.line_number = next.line_number + 1;
     }
     next
 }

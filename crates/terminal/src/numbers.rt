@@ -71,7 +71,7 @@ fn say_fault(word: &[u8], fault: u8) {
 }
 
 // The numbers from a place to the text's end, 512 at most; one word more is told.
-pub fn bytes_from(text: &[u8], from: usize, number: usize) -> Bytes
+pub fn bytes_from(text: &[u8], from: usize, line_number: usize) -> Bytes
     ensures { λ r. ⌜ r .count ≤ 512 ⌝ }
 {
     let mut values = [0u8; 512];
@@ -90,7 +90,7 @@ pub fn bytes_from(text: &[u8], from: usize, number: usize) -> Bytes
         }
         let checked = check_byte(&text[start..end]);
         if checked.fault != RIGHT {
-            say_where(number, start);
+            say_where(line_number, start);
             say_fault(&text[start..end], checked.fault);
             return Bytes {
                 values,
@@ -102,13 +102,13 @@ pub fn bytes_from(text: &[u8], from: usize, number: usize) -> Bytes
         count += 1;
         at = end;
     }
-    let ok = ends(text, at, number);
+    let ok = ends(text, at, line_number);
     Bytes { values, count, ok }
 }
 
 // What is said of too many numbers or too few.
-pub fn say_wanted(number: usize, place: usize, wanted: usize, given: usize) {
-    say_where(number, place);
+pub fn say_wanted(line_number: usize, place: usize, wanted: usize, given: usize) {
+    say_where(line_number, place);
     say(b"numbers wanted: ");
     say_number(wanted);
     say(b", given: ");
@@ -135,7 +135,7 @@ fn bits_of(word: &[u8], most: usize) -> usize {
 }
 
 // A number with a sign, from a place on. Its width has the numbers from -(most + 1) to most, sixteen bits at the widest.
-pub fn signed_from(text: &[u8], from: usize, number: usize, most: usize) -> Signed {
+pub fn signed_from(text: &[u8], from: usize, line_number: usize, most: usize) -> Signed {
     let word = line::next_word(text, from);
     let start = word.start;
     let end = word.end;
@@ -148,7 +148,7 @@ pub fn signed_from(text: &[u8], from: usize, number: usize, most: usize) -> Sign
             ok: true,
         };
     }
-    say_where(number, start);
+    say_where(line_number, start);
     if start == end {
         say(b"a number is missing\n");
     } else {
@@ -167,14 +167,14 @@ pub fn signed_from(text: &[u8], from: usize, number: usize, most: usize) -> Sign
 }
 
 // Whether the text ends here; a word that is left over is told.
-pub fn ends(text: &[u8], from: usize, number: usize) -> bool {
+pub fn ends(text: &[u8], from: usize, line_number: usize) -> bool {
     let word = line::next_word(text, from);
     let start = word.start;
     let end = word.end;
     if start == end {
         return true;
     }
-    say_where(number, start);
+    say_where(line_number, start);
     say_shown(&text[start..end]);
     say(b" is one word too many\n");
     false

@@ -90,9 +90,9 @@ pub fn pad(used: usize, width: usize) {
 }
 
 // The start of a message: where a person finds what was wrong. Places are counted from 1.
-pub fn say_where(number: usize, place: usize) {
+pub fn say_where(line_number: usize, place: usize) {
     say(b"line ");
-    say_number(number);
+    say_number(line_number);
     say(b": place ");
     say_number(plus(place, 1));
     say(b": ");

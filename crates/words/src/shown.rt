@@ -46,9 +46,9 @@ fn named(name: &[u8], numbers: &[u8]) -> usize {
     plus(head, plus(say_joined(numbers, b", "), say(b")")))
 }
 
-fn named_signed(name: &[u8], number: i8) -> usize {
+fn named_signed(name: &[u8], value: i8) -> usize {
     let head = plus(say(name), say(b"("));
-    plus(head, plus(say_signed(wire::widen(number)), say(b")")))
+    plus(head, plus(say_signed(wire::widen(value)), say(b")")))
 }
 
 fn named_pair(name: &[u8], a: i16, b: i16) -> usize {
@@ -64,7 +64,7 @@ fn say_command(command: Command) -> usize {
         Command::Safe => say(b"Safe"),
         Command::Full => say(b"Full"),
         Command::Power => say(b"Power"),
-        Command::Demo(number) => named_signed(b"Demo", number),
+        Command::Demo(demo) => named_signed(b"Demo", demo),
         Command::Spot => say(b"Spot"),
         Command::Cover => say(b"Cover"),
         Command::Dock => say(b"Dock"),
@@ -75,8 +75,8 @@ fn say_command(command: Command) -> usize {
         Command::Leds(bits, color, intensity) => named(b"Leds", &[bits, color, intensity]),
         Command::Outputs(bits) => named(b"Outputs", &[bits]),
         Command::Infrared(code) => named(b"Infrared", &[code]),
-        Command::Song(number, notes) => named(b"Song", &[number, notes]),
-        Command::Play(number) => named(b"Play", &[number]),
+        Command::Song(song, notes) => named(b"Song", &[song, notes]),
+        Command::Play(song) => named(b"Play", &[song]),
         Command::Sensors(id) => named(b"Sensors", &[id]),
         Command::QueryList(ids) => named(b"QueryList", &[ids]),
         Command::Stream(ids) => named(b"Stream", &[ids]),

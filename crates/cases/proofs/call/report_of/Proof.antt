@@ -5,10 +5,10 @@ use Rattle.cases.proofs.call.report_of.Statement.{statement}
 use Rattle.cases.proofs.call.report_of.Tie as tie
 
 abbrev Inv-loop : tie.InvT-loop
-Inv-loop text from number call₀ at₀ turns₀ t10 t11 call at turns = Unit {0}
+Inv-loop text from line_number call₀ at₀ turns₀ t10 t11 call at turns = Unit {0}
 
 abbrev μ-loop : tie.MeasureT-loop
-μ-loop text from number call₀ at₀ turns₀ t10 t11 call at turns = turns
+μ-loop text from line_number call₀ at₀ turns₀ t10 t11 call at turns = turns
 
 pub report-of-spec : {M : Type 1} → statement M
 report-of-spec =

@@ -6,10 +6,10 @@ use Rattle.terminal.proofs.numbers.bytes_from.Statement.{statement}
 use Rattle.terminal.proofs.numbers.bytes_from.Tie as tie
 
 abbrev Inv-loop : tie.InvT-loop
-Inv-loop text from number values₀ count₀ at₀ values count at = count ≤ 512
+Inv-loop text from line_number values₀ count₀ at₀ values count at = count ≤ 512
 
 abbrev μ-loop : tie.MeasureT-loop
-μ-loop text from number values₀ count₀ at₀ values count at = 512 - count
+μ-loop text from line_number values₀ count₀ at₀ values count at = 512 - count
 
 pub bytes-from-spec : {M : Type 1} → statement M
 bytes-from-spec =
