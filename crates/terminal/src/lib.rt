@@ -1,10 +1,12 @@
 // What the programs here share: lines from standard input, the numbers of a line with what is said of bad ones, and text to standard output. What is read and
 // written no contract can say; the work is in `line` and in the libraries that the programs call.
+mod form;
 mod input;
 mod names;
 mod numbers;
 mod output;
 
+pub use form::say_form;
 pub use input::END;
 pub use input::FAILED;
 pub use input::Input;
@@ -20,6 +22,7 @@ pub use numbers::bytes_from;
 pub use numbers::ends;
 pub use numbers::say_wanted;
 pub use numbers::signed_from;
+pub use output::bits;
 pub use output::pad;
 pub use output::plus;
 pub use output::say;

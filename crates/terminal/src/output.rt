@@ -33,9 +33,16 @@ pub fn wide(b: u8) -> usize
     b as usize
 }
 
-// A sixteen-bit number with its sign, by its two bytes.
+// The sixteen bits of a number with a sign, as a form takes them.
+pub fn bits(v: i16) -> usize
+    ensures { λ r. ⌜ r < 65536 ⌝ }
+{
+    wide(wire::high16(v)) * 256 + wide(wire::low16(v))
+}
+
+// A sixteen-bit number with its sign.
 pub fn say_signed(v: i16) -> usize {
-    let bits = wide(wire::high16(v)) * 256 + wide(wire::low16(v));
+    let bits = bits(v);
     if bits < 32768 {
         return say_number(bits);
     }
