@@ -12,14 +12,16 @@ use terminal::signed_from;
 use terminal::which;
 use terminal::wide;
 
-// The numbers of a setting: a place, a place in that, and a value, each below a limit; where the limit is 0 the number is not there.
+// The numbers of a setting: a place, a place in that, and a value, each below a limit; where the
+// limit is 0 the number is not there.
 pub struct Limits {
     pub place: usize,
     pub inner: usize,
     pub value: usize,
 }
 
-// A number, also as its sixteen bits; and the place after it. Not ok where it is bad, and then it has been said.
+// A number, also as its sixteen bits; and the place after it. Not ok where it is bad, and then it
+// has been said.
 pub struct Part {
     pub value: i16,
     pub bits: usize,
@@ -27,15 +29,54 @@ pub struct Part {
     pub ok: bool,
 }
 
-// The settings, from 0 on.
+// The settings, by their places among the names.
+const MODE: usize = 0;
+
+const ORDER: usize = 1;
+
+const FIRST: usize = 2;
+
+const SECOND: usize = 3;
+
+const DUTY: usize = 4;
+
+const BAUD: usize = 5;
+
+const LED: usize = 6;
+
+const OUTPUTS: usize = 7;
+
+const IR: usize = 8;
+
+const SELECTED: usize = 9;
+
+const PLAYING: usize = 10;
+
+const LENGTH: usize = 11;
+
+const NOTE: usize = 12;
+
+const ID: usize = 13;
+
+const IDS: usize = 14;
+
+const STREAMING: usize = 15;
+
+const HELD: usize = 16;
+
+const STORED: usize = 17;
+
+const OWED: usize = 18;
+
+pub const SETTINGS: usize = 19;
+
 pub fn setting_of(word: &[u8]) -> usize {
     which(
         word,
-        b"mode order first second duty baud outputs selected playing length note id ids streaming held stored owed",
+        b"mode order first second duty baud led outputs ir selected playing length note id ids \
+        streaming held stored owed",
     )
 }
-
-pub const SETTINGS: usize = 17;
 
 fn below(place: usize, inner: usize, value: usize) -> Limits {
     Limits {
@@ -47,12 +88,12 @@ fn below(place: usize, inner: usize, value: usize) -> Limits {
 
 pub fn limits_of(setting: usize) -> Limits {
     match setting {
-        2 | 3 => below(0, 0, 65536),
-        4 => below(3, 0, 256),
-        9 | 11 => below(16, 0, 256),
-        10 => below(16, 32, 256),
-        14 => below(35, 0, 256),
-        15 | 16 => below(0, 0, 32768),
+        FIRST | SECOND => below(0, 0, 65536),
+        DUTY | LED => below(3, 0, 256),
+        LENGTH | ID => below(16, 0, 256),
+        NOTE => below(16, 32, 256),
+        HELD => below(35, 0, 256),
+        STORED | OWED => below(0, 0, 32768),
         _ => below(0, 0, 256),
     }
 }
@@ -87,9 +128,9 @@ fn set_motors(motors: Motors, setting: usize, i: usize, v: i16) -> Motors {
     let mut next = motors;
     let mut duties = motors.duties;
     match setting {
-        1 => next.order = wire::low16(v),
-        2 => next.first = v,
-        3 => next.second = v,
+        ORDER => next.order = wire::low16(v),
+        FIRST => next.first = v,
+        SECOND => next.second = v,
         _ => {
             if i < 3 {
                 duties[i] = wire::low16(v);
@@ -100,12 +141,19 @@ fn set_motors(motors: Motors, setting: usize, i: usize, v: i16) -> Motors {
     next
 }
 
-fn set_kept(kept: Kept, setting: usize, b: u8) -> Kept {
+fn set_kept(kept: Kept, setting: usize, i: usize, b: u8) -> Kept {
     let mut next = kept;
-    if setting == 5 {
-        next.baud = b;
-    } else {
-        next.outputs = b;
+    let mut leds = kept.leds;
+    match setting {
+        BAUD => next.baud = b,
+        OUTPUTS => next.outputs = b,
+        IR => next.ir = b,
+        _ => {
+            if i < 3 {
+                leds[i] = b;
+            }
+            next.leds = leds;
+        }
     }
     next
 }
@@ -113,7 +161,7 @@ fn set_kept(kept: Kept, setting: usize, b: u8) -> Kept {
 fn set_song(song: Song, setting: usize, j: usize, b: u8) -> Song {
     let mut next = song;
     let mut notes = song.notes;
-    if setting == 9 {
+    if setting == LENGTH {
         next.len = b;
     } else if j < 32 {
         notes[j] = b;
@@ -124,9 +172,9 @@ fn set_song(song: Song, setting: usize, j: usize, b: u8) -> Song {
 
 fn set_songs(songs: Songs, setting: usize, i: usize, j: usize, b: u8) -> Songs {
     let mut next = songs;
-    if setting == 7 {
+    if setting == SELECTED {
         next.selected = b;
-    } else if setting == 8 {
+    } else if setting == PLAYING {
         next.playing = b;
     } else if i < 16 {
         let mut table = songs.table;
@@ -140,9 +188,9 @@ fn set_songs(songs: Songs, setting: usize, i: usize, j: usize, b: u8) -> Songs {
 fn set_stream(stream: Stream, setting: usize, i: usize, b: u8) -> Stream {
     let mut next = stream;
     let mut ids = stream.ids;
-    if setting == 12 {
+    if setting == IDS {
         next.count = b;
-    } else if setting == 13 {
+    } else if setting == STREAMING {
         next.on = b;
     } else if i < 16 {
         ids[i] = b;
@@ -154,9 +202,9 @@ fn set_stream(stream: Stream, setting: usize, i: usize, b: u8) -> Stream {
 fn set_partial(partial: Partial, setting: usize, i: usize, part: Part) -> Partial {
     let mut next = partial;
     let mut bytes = partial.bytes;
-    if setting == 15 {
+    if setting == STORED {
         next.count = part.bits;
-    } else if setting == 16 {
+    } else if setting == OWED {
         next.remaining = part.bits;
     } else if i < 35 {
         bytes[i] = wire::low16(part.value);
@@ -169,28 +217,28 @@ fn set_partial(partial: Partial, setting: usize, i: usize, part: Part) -> Partia
 pub fn set(state: State, setting: usize, i: usize, j: usize, part: Part) -> State {
     let mut next = state;
     let b = wire::low16(part.value);
-    if setting == 0 {
-        next.mode = b;
-    } else if setting <= 4 {
-        let motors = state.motors;
-        let made = set_motors(motors, setting, i, part.value);
-        next.motors = made;
-    } else if setting <= 6 {
-        let kept = state.kept;
-        let made = set_kept(kept, setting, b);
-        next.kept = made;
-    } else if setting <= 10 {
-        let songs = state.songs;
-        let made = set_songs(songs, setting, i, j, b);
-        next.songs = made;
-    } else if setting <= 13 {
-        let stream = state.stream;
-        let made = set_stream(stream, setting, i, b);
-        next.stream = made;
-    } else {
-        let partial = state.partial;
-        let made = set_partial(partial, setting, i, part);
-        next.partial = made;
+    match setting {
+        MODE => next.mode = b,
+        ORDER..=DUTY => {
+            let motors = state.motors;
+            next.motors = set_motors(motors, setting, i, part.value);
+        }
+        BAUD..=IR => {
+            let kept = state.kept;
+            next.kept = set_kept(kept, setting, i, b);
+        }
+        SELECTED..=NOTE => {
+            let songs = state.songs;
+            next.songs = set_songs(songs, setting, i, j, b);
+        }
+        ID..=STREAMING => {
+            let stream = state.stream;
+            next.stream = set_stream(stream, setting, i, b);
+        }
+        _ => {
+            let partial = state.partial;
+            next.partial = set_partial(partial, setting, i, part);
+        }
     }
     next
 }
