@@ -13,7 +13,7 @@
 #include "layout.h"
 #include "rawdhusaq.h"
 #include "records.h"
-#include "told.h"
+#include "tally.h"
 
 enum { FirstRoom = 832 };
 
@@ -59,16 +59,16 @@ static RawdhusaqRunReply call_writer(Bench *bench, const uint8_t *bytes)
 
 /* ---- Performing. */
 
-/* Tells of a call, and makes the buffer ready for the next. Gives 0, or -1 where the library gave
+/* Tallies a call, and makes the buffer ready for the next. Gives 0, or -1 where the library gave
  * what no call gives. */
-static int tell(Bench *bench, const RawdhusaqRunReply *reply, Told *told)
+static int tally_reply(Bench *bench, const RawdhusaqRunReply *reply, Tally *tally)
 {
     if (reply->number >= Numbers || reply->length > bench->room || reply->read > LongestRun) {
         fprintf(stderr, "perform: the library gave number %u, length %zu and bytes read %zu\n",
             (unsigned)reply->number, reply->length, reply->read);
         return -1;
     }
-    tell_call(told, reply, bench->buffer, &bench->state);
+    tally_call(tally, reply, bench->buffer, &bench->state);
     /* A call writes no more than its answer, so that this clears the buffer. */
     if (reply->length != 0) {
         memset(bench->buffer, 0, reply->length);
@@ -76,8 +76,8 @@ static int tell(Bench *bench, const RawdhusaqRunReply *reply, Told *told)
     return 0;
 }
 
-/* Makes a setting; or a call, and tells of it. Gives 0 or -1. */
-static int perform_record(Bench *bench, const Record *record, Told *told)
+/* Makes a setting; or a call, and tallies it. Gives 0 or -1. */
+static int perform_record(Bench *bench, const Record *record, Tally *tally)
 {
     RawdhusaqRunReply reply;
     switch (record->kind) {
@@ -108,21 +108,21 @@ static int perform_record(Bench *bench, const Record *record, Told *told)
     default:
         reply = call_writer(bench, record->body);
     }
-    return tell(bench, &reply, told);
+    return tally_reply(bench, &reply, tally);
 }
 
 /* Performs a file up to its end or its first fault, and writes what it gave. Gives 0, or -1 where
- * that can't be, which it tells. */
+ * that can't be, which it says. */
 static int perform(Records *records, Form form)
 {
     Bench bench = { .room = FirstRoom };
-    Told told = nothing_told(form);
+    Tally tally = empty_tally(form);
     const char *why = NULL;
     board_power_on(&bench.state);
     while (why == NULL && has_record(records)) {
         Record record;
         why = read_record(records, &record);
-        if (why == NULL && perform_record(&bench, &record, &told) != 0) {
+        if (why == NULL && perform_record(&bench, &record, &tally) != 0) {
             return -1;
         }
     }
@@ -130,7 +130,7 @@ static int perform(Records *records, Form form)
         fprintf(stderr, "perform: can't read: %s\n", strerror(records->error));
         return -1;
     }
-    tell_end(&told);
+    tally_end(&tally);
     if (why != NULL) {
         printf("offset %zu: %s\n", records->offset + records->start, why);
     }
@@ -152,13 +152,13 @@ static int perform_input(Form form)
 int main(int count, char **arguments)
 {
     if (count == 1) {
-        return perform_input(TellDigest);
+        return perform_input(FormDigest);
     }
     if (count == 2 && strcmp(arguments[1], "bare") == 0) {
-        return perform_input(TellBare);
+        return perform_input(FormBare);
     }
     if (count == 2 && strcmp(arguments[1], "trace") == 0) {
-        return perform_input(TellTrace);
+        return perform_input(FormTrace);
     }
     fputs("usage: perform [bare|trace] < FILE\n", stderr);
     return 2;

@@ -143,11 +143,11 @@ module _ (op : ℤ → ℤ → ℤ) (bound : (x y : ℤ) → natAbs (op x y) ≤
 
   -- what is known of a result that is the absolute value of what the machine computed
   module _ {r : ℕ} (e : r ≡ natAbs (toZ w32 (ofZ w32 (op (wide a) (wide b))))) where
-    pub op-told : r ≡ natAbs (op a b)
-    op-told = e ∙ ap natAbs (toZ-ofZ op-fits ∙ same)
+    pub op-is : r ≡ natAbs (op a b)
+    op-is = e ∙ ap natAbs (toZ-ofZ op-fits ∙ same)
 
     pub op-small : r ≤ 65536
-    op-small = omega (arith, op-told, bounded)
+    op-small = omega (arith, op-is, bounded)
 
 -- ---- on a curve
 

@@ -43,7 +43,7 @@ checked-is P s f g = cond-is P (acceptedOf s) (λ e. g (to-T (acceptedOf s) e)) 
 -- ---- a byte
 
 pub accepted-reachable : (s : State) → T (acceptedOf s) → T (reachableOf (s .partial))
-accepted-reachable s t = to-T (reachableOf (s .partial)) (accepted-exactly .tells s t .1 .partial-is)
+accepted-reachable s t = to-T (reachableOf (s .partial)) (accepted-exactly .accepted-facts s t .1 .partial-is)
 
 module _ (s : State) (b : ℕ) where
   abbrev pushed : Pushed

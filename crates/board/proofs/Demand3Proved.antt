@@ -151,7 +151,7 @@ module _ (s : State) (t : T (acceptedOf s)) (image : List ℕ) (room : ℕ) wher
   starts e =
       is-judged (omega arith)
       ∙ ap (λ (p : Partial). judgeOf (withPartial emptyPartial s) (decodeOf (pushOf p 128 .partial .bytes)) image room) (nothing-held (s .partial) (accepted-reachable s t) e)
-      ∙ judge-start (withPartial emptyPartial s) (replicate 32 0) image room (accepted-exactly .tells s t .1 .mode-is)
+      ∙ judge-start (withPartial emptyPartial s) (replicate 32 0) image room (accepted-exactly .accepted-facts s t .1 .mode-is)
 
 -- ---- a list of calls that reads 128s
 
@@ -253,7 +253,7 @@ becomes-idle t s rs (reads {rs = ms} b image room w c) a h l =
     becomes-idle t (byteOf s b image room .state) ms c (byte-accepted s b image room a (omega (arith, f .0))) (f .1) (omega arith))
     (eq-zero-or-pos (untilOpcode (s .partial)))
 
--- ---- what is told
+-- ---- a run of 128s
 
 read-append : (cs ds : List Call) (s : State) → bytesRead s (cs ++ ds) ≡ bytesRead s cs ++ bytesRead (after s cs) ds
 read-append [] ds s = refl

@@ -173,7 +173,7 @@ module _ (s : State) (m : Message) (image : List ℕ) (room : ℕ) where
   abbrev answer : List ℕ
   answer = answerOf s (effectIn m .needs) image
 
-  -- what is told of a command that is done: of the rules none applies
+  -- what holds of a command that is done: of the rules none applies
   record Done : Type 0 where
     allowed : T (allowedOf (m .command) (s .mode))
     legal : legalOf m ≡ true

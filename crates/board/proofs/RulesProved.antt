@@ -331,7 +331,7 @@ module _ (s : State) (t : T (acceptedOf s)) (e : s .partial ≡ emptyPartial) (i
   demo-byte b h =
       let m = message (cmd.Demo (read8Of b)) (replicate 32 0) in
       byte-right (withPartial demoHeld s) held b image room .judged refl ∙ ap (λ (x : State). judgeOf x m image room) empty
-      ∙ demo-judged s (accepted-exactly .tells s t .1 .mode-is) b h (replicate 32 0) image room
+      ∙ demo-judged s (accepted-exactly .accepted-facts s t .1 .mode-is) b h (replicate 32 0) image room
 
   four-or-three : (off : Bool) → cond off (gives 3 s) (gives 4 s) .number ≡ cond off 3 4
   four-or-three true = refl

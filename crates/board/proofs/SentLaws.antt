@@ -39,7 +39,7 @@ holding s bs = withPartial (afterOf (s .partial) bs) s
 abbrev CompletesAt : Partial → List ℕ → ℕ → Type 0
 CompletesAt p bs b = completed p (snoc bs b) ≡ replicate (length bs) false ++ (true ∷ [])
 
--- what is told of them, with any image and buffer for those before the last, and any for a run
+-- what holds of them, with any image and buffer for those before the last, and any for a run
 record Reads (s : State) (bs : List ℕ) (b : ℕ) (image buffer : List ℕ) : Type 0 where
   waits : numbers s (oneByOne bs image buffer) ≡ replicate (length bs) 9
   holds : after s (oneByOne bs image buffer) ≡ holding s bs

@@ -31,7 +31,7 @@ use Rattle.board.specs.Shown.{shownCases, boardPasses, rejections, rejec
 abbrev pub oneByOne : List ℕ → List ℕ → List ℕ → List Call
 oneByOne bs image buffer = map (λ b. byte b image buffer) bs
 
--- what is told of a message that our writer writes, sent to a record that holds nothing
+-- what holds of a message that our writer writes, sent to a record that holds nothing
 pub record ReadBack (m : Message) (s : State) : Type 0 where
   -- each byte before the last waits
   pub waits : (bs : List ℕ) (b : ℕ) → encodeOf m ≡ snoc bs b

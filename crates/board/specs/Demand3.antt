@@ -51,7 +51,7 @@ endsHeld s cs k =
     let r = getD (readings s cs) k noReading in
     judgeOf (withPartial emptyPartial (r .state)) (decodeOf (pushOf (afterOf (s .partial) (replicate k 128)) 128 .partial .bytes)) (r .image) (r .room) .number
 
--- what is told of a list of calls from s that reads nothing but 128s. Bytes are counted from 0, so that the named one is byte `untilOpcode`.
+-- what holds of a list of calls from s that reads nothing but 128s. Bytes are counted from 0, so that the named one is byte `untilOpcode`.
 pub record RunOf128s (s : State) (cs : List Call) : Type 0 where
   -- the named byte is the first that is read as an opcode, and all later ones are too
   pub opcode-at : (k : ℕ) → k < length (bytesRead s cs) → getD (opcodesRead s cs) k false ≡ leb (untilOpcode (s .partial)) k
@@ -79,7 +79,7 @@ EndsIdle board =
 abbrev pub longest : State
 longest = withPartial (longSong 0 510) moving
 
--- what idle says
+-- what idle means
 pub record IdleFacts (s : State) : Type 0 where
   pub in-passive : s .mode ≡ 1
   pub none-held : s .partial .count ≡ 0

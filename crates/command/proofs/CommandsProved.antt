@@ -14,7 +14,7 @@ use Rattle.wire.specs.Lists.{within, snoc, padded, isByte, allZero, allBytes, b
 use Rattle.wire.specs.Sixteen.{read16Of}
 use Rattle.wire.specs.Replies.{wrote, replyOf}
 use Rattle.wire.proofs.ListsLaws.{all-append, all-take, all-drop, all-replicate, byte-at}
-use Rattle.wire.proofs.RepliesLaws.{reply-4, reply-0, replies-tell}
+use Rattle.wire.proofs.RepliesLaws.{reply-4, reply-0, replies-right}
 use Rattle.frame.specs.FrameTable.{dataLength, inNoRow}
 use Rattle.frame.specs.Cut.{CompleteAtLast}
 use Rattle.packet.specs.SizeTable.{sizeOf, groupOf}
@@ -214,7 +214,7 @@ writing-right =
       illegal-4 = λ m room e. reply-4 (encodeOf m) room e;
       unknown-4 = λ op p room. reply-4 _ room refl;
       not-offered-4 = λ op p room. reply-4 _ room refl;
-      write-tells = λ m before after result x. replies-tell (legalOf m) (encodeOf m) before after result x;
+      write-facts = λ m before after result x. replies-right (legalOf m) (encodeOf m) before after result x;
       unused-ignored = by-payload;
       opcode-first = λ m. refl;
       some-bytes = some-bytes;

@@ -18,7 +18,7 @@ use Rattle.wire.specs.Sixteen.{high16Of, low16Of}
 use Rattle.wire.proofs.ListsLaws.{all-append}
 use Rattle.wire.proofs.SignedLaws.{round-trip-bits}
 use Rattle.wire.proofs.SixteenLaws.{round-trip16}
-use Rattle.command.specs.Layout.{Item, byte, signedByte, word, valueOf, sentAs, allSent, formOf, payloadIn}
+use Rattle.command.specs.Layout.{Item, byte, signedByte, word, valueOf, itemBytes, allSent, formOf, payloadIn}
 use Rattle.command.specs.CommandTable.{Range, isIn, isLegal, allLegal, rowOf, legalOf}
 use Rattle.command.specs.declared.Command.{Command}
 use Rattle.command.specs.declared.Message.{Message}
@@ -108,11 +108,11 @@ numbers-fit m t =
 -- ---- as bytes
 
 -- in whichever order a word's two are sent
-item-bytes : (i : Item) → FitsItem i → T (allBytes (sentAs i))
+item-bytes : (i : Item) → FitsItem i → T (allBytes (itemBytes i))
 item-bytes (byte n) f = simp (lt-ltb n 256 f) tt
 item-bytes (signedByte v) f = simp (lt-ltb (bits8Of v) 256 (round-trip-bits 128 .bits-fit v (f .sfits))) tt
 item-bytes (word v) f = simp (lt-ltb (high16Of v) 256 (round-trip16 .high-byte v f), lt-ltb (low16Of v) 256 (round-trip16 .low-byte v)) tt
 
 pub sent-bytes : (is : List Item) → Fit is → T (allBytes (allSent is))
 sent-bytes [] f = tt
-sent-bytes (i ∷ is) f = all-append isByte (sentAs i) (allSent is) (item-bytes i (f .0)) (sent-bytes is (f .1))
+sent-bytes (i ∷ is) f = all-append isByte (itemBytes i) (allSent is) (item-bytes i (f .0)) (sent-bytes is (f .1))

@@ -197,18 +197,18 @@ module _ (bytes : List ℕ) (t : T (allBytes bytes)) where
   abbrev d : ℕ → ℕ
   d i = getD bytes i 0
 
-  -- what a reading makes of the bytes
-  abbrev told : DecodeRow → Command
-  told r = r .says (d 1) (d 2) (d 3) (d 4)
+  -- what a row makes of the bytes
+  abbrev rowCommand : DecodeRow → Command
+  rowCommand r = r .says (d 1) (d 2) (d 3) (d 4)
 
   -- its opcode, its head's length and its numbers as they are sent; and what these must be
-  abbrev toldAs : DecodeRow → List ℕ
-  toldAs r = opcodeOf (told r) ∷ length (headOf (told r)) ∷ allSent (formOf (told r) .items)
+  abbrev rowSpelled : DecodeRow → List ℕ
+  rowSpelled r = opcodeOf (rowCommand r) ∷ length (headOf (rowCommand r)) ∷ allSent (formOf (rowCommand r) .items)
 
-  abbrev dueAs : DecodeRow → List ℕ
-  dueAs r = r .opcode ∷ least (dataLength (r .opcode)) ∷ map (λ i. getD bytes i 0) (span 1 (length (allSent (formOf (told r) .items))))
+  abbrev dueSpelled : DecodeRow → List ℕ
+  dueSpelled r = r .opcode ∷ least (dataLength (r .opcode)) ∷ map (λ i. getD bytes i 0) (span 1 (length (allSent (formOf (rowCommand r) .items))))
 
-  look-spelled : (rs : List DecodeRow) (op : ℕ) → map toldAs rs ≡ map dueAs rs → Spelled bytes op (commandFor rs op (d 1) (d 2) (d 3) (d 4))
+  look-spelled : (rs : List DecodeRow) (op : ℕ) → map rowSpelled rs ≡ map dueSpelled rs → Spelled bytes op (commandFor rs op (d 1) (d 2) (d 3) (d 4))
   look-spelled [] op e =
       cond-is (Spelled bytes op) (within 152 158 op)
       (λ q. record { opcode = refl; sent = refl; shortest = λ z. absurd (omega (arith, z)) })
@@ -224,7 +224,7 @@ module _ (bytes : List ℕ) (t : T (allBytes bytes)) where
       (λ q. look-spelled rs op (ap (λ (l : List (List ℕ)). drop 1 l) e))
 
   -- computed, but for the signed numbers
-  all-spelled : map toldAs decodeTable ≡ map dueAs decodeTable
+  all-spelled : map rowSpelled decodeTable ≡ map dueSpelled decodeTable
   unfolding dataLength
   all-spelled =
       let e = round-trip-bits 128 .written-read (d 1) (byte-at bytes t 1) in

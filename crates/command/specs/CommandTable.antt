@@ -130,26 +130,26 @@ commandTable =
     ∷ row (150 ∷ []) PSF (ranges (upTo 1 ∷ []))
     ∷ []
 
--- what the rows say of an opcode
-pub record Judged : Type 0 where
+-- the columns of an opcode's row
+pub record Columns : Type 0 where
   pub modes : List ℕ
   pub legal : LegalData
 
 -- no mode, and no legal data
-abbrev pub noRow : Judged
+abbrev pub noRow : Columns
 noRow = record { modes = []; legal = record { numbers = []; payload = λ bytes. false } }
 
 -- the first of these entries that has the opcode, or else what comes after
-abbrev inRow : List ℕ → List Entry → ℕ → Judged → Judged
+abbrev inRow : List ℕ → List Entry → ℕ → Columns → Columns
 inRow modes [] op after = after
 inRow modes (e ∷ es) op after = cond (eqb op (e .opcode)) (record { modes = modes; legal = e .legal }) (inRow modes es op after)
 
-abbrev pub rowFor : List Row → ℕ → Judged
+abbrev pub rowFor : List Row → ℕ → Columns
 rowFor [] op = noRow
 rowFor (r ∷ rs) op = inRow (r .modes) (r .entries) op (rowFor rs op)
 
 -- what they say of a command; a variant that is refused as such has no row, whatever its opcode
-unfoldable pub rowOf : Command → Judged
+unfoldable pub rowOf : Command → Columns
 rowOf c = cond (eqb (refusalOf c) 0) (rowFor commandTable (opcodeOf c)) noRow
 
 -- ---- what the contracts cite

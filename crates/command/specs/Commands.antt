@@ -90,7 +90,7 @@ pub record DataColumn : Type 0 where
 abbrev pub unusedZero : Message → Bool
 unusedZero m = allZero (drop (payloadSize (m .command)) (m .payload))
 
--- what is told of the message of 35 bytes
+-- what holds of the message of 35 bytes
 pub record DecodeFacts (bytes : List ℕ) : Type 0 where
   -- sent again, it is as many of the bytes, legal or not: its opcode, its numbers and the payload in use are theirs
   pub sent-again : encodeOf (decodeOf bytes) ≡ take (length (encodeOf (decodeOf bytes))) bytes
@@ -119,7 +119,7 @@ pub record WritingRight : Type 0 where
   pub unknown-4 : (op : ℕ) (p : List ℕ) (room : ℕ) → writeReply (message (Unknown op) p) room ≡ refused 4
   pub not-offered-4 : (op : ℕ) (p : List ℕ) (room : ℕ) → writeReply (message (NotOffered op) p) room ≡ refused 4
   -- 4 exactly where the data aren't legal, 7 exactly where the frame is longer than the buffer, and else that frame
-  pub write-tells : (m : Message) (before after : List ℕ) (result : Sent) → Replied (writeReply m) before after result
+  pub write-facts : (m : Message) (before after : List ℕ) (result : Sent) → Replied (writeReply m) before after result
       → ReplyFacts (legalOf m) (encodeOf m) before after result
   -- a place that the command does not use makes no difference
   pub unused-ignored : (c : Command) (p q : List ℕ) → take (payloadSize c) p ≡ take (payloadSize c) q

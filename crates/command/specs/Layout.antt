@@ -29,14 +29,14 @@ valueOf (signedByte v) = v
 valueOf (word v) = v
 
 -- how it is sent
-abbrev pub sentAs : Item → List ℕ
-sentAs (byte n) = n ∷ []
-sentAs (signedByte v) = bits8Of v ∷ []
-sentAs (word v) = be16 v
+abbrev pub itemBytes : Item → List ℕ
+itemBytes (byte n) = n ∷ []
+itemBytes (signedByte v) = bits8Of v ∷ []
+itemBytes (word v) = be16 v
 
 abbrev pub allSent : List Item → List ℕ
 allSent [] = []
-allSent (i ∷ is) = sentAs i ++ allSent is
+allSent (i ∷ is) = itemBytes i ++ allSent is
 
 -- a command's opcode, its numbers in the order in which they are sent, how many bytes of the payload follow them, and the number by which
 -- a variant is refused as such, which is 0 for an offered command

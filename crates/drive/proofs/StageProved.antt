@@ -197,7 +197,7 @@ taken v r (suc (suc (suc kind))) h drive direct = let never : ⊥ = omega arith 
 accepted : (s : State) → T (acceptedOf s) → ordered (s .motors) .number ≡ 0
 accepted s t =
     let m = s .motors in
-    let p = accepted-exactly .tells s t .1 in
+    let p = accepted-exactly .accepted-facts s t .1 in
     taken (m .first) (m .second) (m .order) (p .order-is) (p .drive-is) (p .direct-is)
 
 records-right : RecordsRight
@@ -205,7 +205,7 @@ records-right =
     record {
       accepted = accepted;
       off = off-stands;
-      at-rest = λ s t h. off-stands (s .motors) (accepted-exactly .tells s t .1 .off-unless-driven h);
+      at-rest = λ s t h. off-stands (s .motors) (accepted-exactly .accepted-facts s t .1 .off-unless-driven h);
     }
 
 -- ---- all of it

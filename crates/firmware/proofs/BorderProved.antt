@@ -5,13 +5,13 @@ use mathlib.Core.Bool.{true, not}
 use Prim.Native.Nat.{ℕ, _<_}
 use native.Mathlib.Omega.{arith}
 use borrow.Author.Tests.{ne-eqb}
-use Rattle.firmware.specs.Border.{flagSet, toldAs, BorderRight}
+use Rattle.firmware.specs.Border.{flagSet, wheelSpeedsOf, BorderRight}
 
 set : (flag : ℕ) → 0 < flag → flagSet flag ≡ true
 set flag h = ap not (ne-eqb flag 0 (λ (e : flag ≡ 0). omega arith))
 
 pub border-right : BorderRight
-unfolding toldAs
+unfolding wheelSpeedsOf
 border-right =
     record {
       clear = refl;

@@ -16,8 +16,8 @@ abbrev pub flagOf : Bool → ℕ
 flagOf b = cond b 1 0
 
 -- the speeds of `drive`, with such a flag
-unfoldable pub toldAs : Speeds → WheelSpeeds
-toldAs s = record { number = s .number; right = s .right; left = s .left; capped = flagOf (s .capped) }
+unfoldable pub wheelSpeedsOf : Speeds → WheelSpeeds
+wheelSpeedsOf s = record { number = s .number; right = s .right; left = s .left; capped = flagOf (s .capped) }
 
 -- THEOREM: a flag is the same on both sides, and wheel speeds are as `drive` gives them
 pub record BorderRight : Type 0 where
@@ -25,7 +25,7 @@ pub record BorderRight : Type 0 where
   pub set : (flag : ℕ) → 0 < flag → flagSet flag ≡ true
   pub yes : flagOf true ≡ 1
   pub no : flagOf false ≡ 0
-  pub same-number : (s : Speeds) → toldAs s .number ≡ s .number
-  pub same-right : (s : Speeds) → toldAs s .right ≡ s .right
-  pub same-left : (s : Speeds) → toldAs s .left ≡ s .left
-  pub flag-capped : (s : Speeds) → toldAs s .capped ≡ flagOf (s .capped)
+  pub same-number : (s : Speeds) → wheelSpeedsOf s .number ≡ s .number
+  pub same-right : (s : Speeds) → wheelSpeedsOf s .right ≡ s .right
+  pub same-left : (s : Speeds) → wheelSpeedsOf s .left ≡ s .left
+  pub flag-capped : (s : Speeds) → wheelSpeedsOf s .capped ≡ flagOf (s .capped)

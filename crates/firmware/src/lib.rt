@@ -17,7 +17,7 @@ ghost use Rattle.state.specs.Same.{sameState};
 ghost use Rattle.board.specs.Outcome.{answered, written};
 ghost use Rattle.board.specs.Calls.{byteOf, reportOf, tickOf, songEndOf, runOf, ranAs};
 ghost use Rattle.drive.specs.Orders.{speedsOf};
-ghost use Rattle.firmware.specs.Border.{flagSet, flagOf, toldAs};
+ghost use Rattle.firmware.specs.Border.{flagSet, flagOf, wheelSpeedsOf};
 use command::Fields;
 use state::State;
 use steps::flag_of;
@@ -164,7 +164,7 @@ pub extern "C" fn host_write(message: &Fields, buffer: &mut [u8]) -> Reply
 // The speed of each wheel by a wheel order of the record: its kind and its two numbers.
 #[no_mangle]
 pub extern "C" fn wheel_speeds(kind: u8, first: i16, second: i16) -> WheelSpeeds
-    ensures { λ r. ⌜ r ≡ toldAs (speedsOf kind first second) ⌝ }
+    ensures { λ r. ⌜ r ≡ wheelSpeedsOf (speedsOf kind first second) ⌝ }
 {
     let speeds = drive::wheel_speeds(kind, first, second);
     WheelSpeeds {

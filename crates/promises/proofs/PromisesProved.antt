@@ -2,7 +2,7 @@
 -- Assumes nothing.
 use Rattle.wire.proofs.SignedLaws.{round-trip-bits, bytes-shown}
 use Rattle.wire.proofs.SixteenLaws.{round-trip16}
-use Rattle.wire.proofs.RepliesLaws.{replies-tell}
+use Rattle.wire.proofs.RepliesLaws.{replies-right}
 use Rattle.frame.proofs.AbsorbLaws.{taken-at-once}
 use Rattle.frame.proofs.CutProved.{every-push, remaining-needed}
 use Rattle.command.proofs.FieldsProved.{fields-right}
@@ -29,7 +29,7 @@ promises =
       together = taken-at-once;
       refused-records = records-in-numbers;
       good-records = accepted-stays;
-      answers-whole = replies-tell;
+      answers-whole = replies-right;
       two-bytes = round-trip16;
       signed-bits = round-trip-bits;
       one-byte-shown = bytes-shown;

@@ -5,7 +5,7 @@
 use Prim.Native.Nat.{ℕ}
 use Rattle.wire.specs.Signed.{RoundTripBits, BytesShown}
 use Rattle.wire.specs.Sixteen.{RoundTrip16}
-use Rattle.wire.specs.Replies.{RepliesTell}
+use Rattle.wire.specs.Replies.{RepliesRight}
 use Rattle.frame.specs.Absorb.{TakenAtOnce}
 use Rattle.frame.specs.Cut.{EveryPush, RemainingNeeded}
 use Rattle.command.specs.Fields.{FieldsRight}
@@ -61,7 +61,7 @@ pub record Promises : Type 0 where
   -- Whatever a command that is not refused sets in a good record, the record stays good.
   pub good-records : AcceptedStays
   -- An answer is written whole, from the start of the lent buffer, or not at all.
-  pub answers-whole : RepliesTell
+  pub answers-whole : RepliesRight
   -- Numbers with a sign, as two bytes and as one: what is written is read back, and what is read is
   -- written back.
   pub two-bytes : RoundTrip16

@@ -96,9 +96,9 @@ stop-right =
 
 -- ---- accepted
 
-typed-tells : (s : State) → T (typed s) → Typed s
+typed-facts : (s : State) → T (typed s) → Typed s
 unfolding motorsTyped keptTyped songTyped streamTyped
-typed-tells s t =
+typed-facts s t =
     let r = typed-of s t in
     let m = s .motors in
     let a = both (isWord (m .first)) (isWord (m .second) && byteArray 3 (m .duties)) (r .motors) in
@@ -195,11 +195,11 @@ accepted-of s t p =
 pub accepted-exactly : AcceptedExactly
 unfolding acceptedOf
 accepted-exactly = record {
-  typed-tells = typed-tells;
+  typed-facts = typed-facts;
   typed-so = typed-so;
   set-so = set-so;
   by-parts = by-parts;
-  tells = λ s t. (and-yes (typed s) (all (λ b. b) (items s)) t .0, plain-of s t);
+  accepted-facts = λ s t. (and-yes (typed s) (all (λ b. b) (items s)) t .0, plain-of s t);
   no-other = accepted-of;
 }
 

@@ -170,17 +170,17 @@ pub record Typed (s : State) : Type 0 where
 
 -- THEOREM: of the values of the type those are accepted, and no others
 pub record AcceptedExactly : Type 0 where
-  pub typed-tells : (s : State) → T (typed s) → Typed s
+  pub typed-facts : (s : State) → T (typed s) → Typed s
   pub typed-so : (s : State) → Typed s → T (typed s)
   pub set-so : (x : Song) → isSet x ≡ ltb 0 (x .len)
-  pub tells : (s : State) → T (acceptedOf s) → T (typed s) × Plain s
+  pub accepted-facts : (s : State) → T (acceptedOf s) → T (typed s) × Plain s
   pub no-other : (s : State) → T (typed s) → Plain s → T (acceptedOf s)
   -- the tests of the parts, which the code asks
   pub by-parts : (s : State) → acceptedOf s ≡ partsOk s
 
 -- ---- what keeps a record accepted
 
--- what is told of an accepted record: with what is set, it is accepted too
+-- what holds of an accepted record: with what is set, it is accepted too
 pub record StaysAccepted (s : State) : Type 0 where
   -- with another part
   pub mode-kept : (m : ℕ) → m ≤ 3 → (m ≤ 1 → motorsOff (s .motors) ≡ true) → T (acceptedOf (withMode m s))

@@ -11,7 +11,7 @@ use lib.ListN.{length, take, drop}
 use lib.Seq.{take-append-seam, drop-append-seam}
 use borrow.Author.Tests.{le-leb, lt-leb}
 use Rattle.wire.specs.Buffer.{overwrite, Put}
-use Rattle.wire.specs.Replies.{Reply, refused, wrote, replyOf, sentOf, leftIn, Replied, RepliesTell}
+use Rattle.wire.specs.Replies.{Reply, refused, wrote, replyOf, sentOf, leftIn, Replied, RepliesRight}
 use Rattle.wire.specs.declared.Sent.{Sent}
 use Rattle.wire.proofs.BoolLaws.{le-or-lt}
 use Rattle.wire.proofs.BufferLaws.{put-start}
@@ -88,9 +88,9 @@ module _ (legal : Bool) (bytes d d′ : List ℕ) (result : Sent) (x : Replied (
       nothing : {m : ℕ} → Says (refused m) → (result .length ≡ 0) × (d′ ≡ d)
       nothing s = (ap (λ (r : Sent). r .length) (s .0), s .1)
 
-pub replies-tell : RepliesTell
+pub replies-right : RepliesRight
 unfolding overwrite
-replies-tell legal bytes d d′ result x =
+replies-right legal bytes d d′ result x =
     record {
       number-4 = λ e. number legal bytes d d′ result x (reply-4 bytes (length d) e);
       number-7 = λ e h. number legal bytes d d′ result x (reply-7 bytes (length d) e h);

@@ -32,7 +32,7 @@ pub record Replied (reply : ℕ → Reply) (before after : List ℕ) (result : S
   pub sent : result ≡ sentOf (reply (length before))
   pub buffer : after ≡ leftIn (reply (length before)) before
 
--- what is told of a call that writes these bytes where its data are legal
+-- what holds of a call that writes these bytes where its data are legal
 pub record ReplyFacts (legal : Bool) (bytes before after : List ℕ) (result : Sent) : Type 0 where
   -- each number exactly in its case
   pub number-4 : legal ≡ false → result .number ≡ 4
@@ -46,8 +46,8 @@ pub record ReplyFacts (legal : Bool) (bytes before after : List ℕ) (result : S
   pub refused-length : (result .number ≡ 0 → ⊥) → result .length ≡ 0
   pub refused-buffer : (result .number ≡ 0 → ⊥) → after ≡ before
 
--- THEOREM: the contract tells it
-abbrev pub RepliesTell : Type 0
-RepliesTell =
+-- THEOREM: they follow from the contract
+abbrev pub RepliesRight : Type 0
+RepliesRight =
     (legal : Bool) (bytes before after : List ℕ) (result : Sent) → Replied (replyOf legal bytes) before after result
     → ReplyFacts legal bytes before after result

@@ -23,10 +23,10 @@ const SOME: [i16; 33] = [
 ];
 
 /// What a call gives, laid out as the library does. What says whether a speed was
-/// capped is a number there, 0 or 1; any other can be told here.
+/// capped is a number there, 0 or 1; any other shows here.
 #[repr(C)]
 #[derive(Clone, Copy, PartialEq, Eq)]
-struct Told {
+struct WheelSpeeds {
     number: u8,
     right: i16,
     left: i16,
@@ -35,23 +35,23 @@ struct Told {
 
 #[link(name = "firmware", kind = "static")]
 extern "C" {
-    fn wheel_speeds(kind: u8, first: i16, second: i16) -> Told;
+    fn wheel_speeds(kind: u8, first: i16, second: i16) -> WheelSpeeds;
 }
 
-fn ours(order: WheelOrder) -> Told {
+fn ours(order: WheelOrder) -> WheelSpeeds {
     // SAFETY: it takes any three numbers, and no memory is shared.
     unsafe { wheel_speeds(order.kind, order.first, order.second) }
 }
 
-fn twins(order: WheelOrder) -> Told {
+fn twins(order: WheelOrder) -> WheelSpeeds {
     match drive::wheel_speeds(order) {
-        Ok(speeds) => Told {
+        Ok(speeds) => WheelSpeeds {
             number: 0,
             right: speeds.right,
             left: speeds.left,
             capped: u8::from(speeds.capped),
         },
-        Err(number) => Told {
+        Err(number) => WheelSpeeds {
             number: number as u8,
             right: 0,
             left: 0,
@@ -60,9 +60,9 @@ fn twins(order: WheelOrder) -> Told {
     }
 }
 
-impl fmt::Display for Told {
+impl fmt::Display for WheelSpeeds {
     fn fmt(&self, f: &mut fmt::Formatter) -> fmt::Result {
-        let Told {
+        let WheelSpeeds {
             number,
             right,
             left,
@@ -175,12 +175,12 @@ struct Tally {
 }
 
 impl Tally {
-    fn add(&mut self, order: WheelOrder, told: Told) {
+    fn add(&mut self, order: WheelOrder, speeds: WheelSpeeds) {
         let exact = drive::exact_speeds(order);
         let half = exact.is_some_and(|speeds| speeds.into_iter().any(Fraction::is_half));
         self.same += 1;
-        self.refused += u64::from(told.number != 0);
-        self.capped += u64::from(told.capped);
+        self.refused += u64::from(speeds.number != 0);
+        self.capped += u64::from(speeds.capped);
         self.halves += u64::from(half);
     }
 }
@@ -195,7 +195,7 @@ fn compare(group: &Group, out: &mut impl Write) -> io::Result<bool> {
         let (ours, twin) = (ours(order), twins(order));
         if ours != twin {
             writeln!(out, "different after {} the same", tally.same)?;
-            tell_difference(order, ours, twin);
+            show_difference(order, ours, twin);
             return Ok(false);
         }
         tally.add(order, twin);
@@ -213,7 +213,7 @@ fn compare(group: &Group, out: &mut impl Write) -> io::Result<bool> {
     Ok(true)
 }
 
-fn tell_difference(order: WheelOrder, ours: Told, twin: Told) {
+fn show_difference(order: WheelOrder, ours: WheelSpeeds, twin: WheelSpeeds) {
     let WheelOrder {
         kind,
         first,

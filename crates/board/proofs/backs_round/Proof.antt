@@ -14,7 +14,7 @@ use borrow.Author.Needs.{needs}
 use Rattle.wire.proofs.SignedLaws.{widened-fits}
 use Rattle.wire.proofs.IntLaws.{abs-sum, abs-difference}
 use Rattle.board.specs.Calls.{backsRound}
-use Rattle.board.proofs.BackingLaws.{compared, op-fits, op-told, op-small}
+use Rattle.board.proofs.BackingLaws.{compared, op-fits, op-is, op-small}
 use Rattle.board.proofs.backs_round.Statement.{statement}
 use Rattle.board.proofs.backs_round.Tie as tie
 
@@ -54,8 +54,8 @@ returns-2 c =
     let neither = c .before .before in
     let a = neither .before .before .args in
     let f = neither .before .before .fits in
-    let sum = op-told _+ℤ_ abs-sum (f .right) (f .left) (c .before .magnitude .ensures) in
-    let difference = op-told _-ℤ_ abs-difference (f .right) (f .left) (c .magnitude2 .ensures) in
+    let sum = op-is _+ℤ_ abs-sum (f .right) (f .left) (c .before .magnitude .ensures) in
+    let difference = op-is _-ℤ_ abs-difference (f .right) (f .left) (c .magnitude2 .ensures) in
     (λ i. ltb (129 * sum i) (165 * difference i))
     ∙ sym (simp (rw (toZ-ofZ (f .right)) at (neither .before .if1 .left), rw (toZ-ofZ (f .left)) at (neither .if2 .left), compared (a .right) (a .left)))
 

@@ -76,7 +76,7 @@ module _ (c : tie.After-ids2) where
   asked = begun .before .before .before .args .state
 
   plain : Plain asked
-  plain = accepted-exactly .tells asked (checked begun) .1
+  plain = accepted-exactly .accepted-facts asked (checked begun) .1
 
   streamed : streams (asked .stream) ≡ true
   streamed = simp (eq-eqb (asked .stream .on) 1 (on .if3 .left), ne-eqb (asked .stream .count) 0 (count .if4 .left))
@@ -84,7 +84,7 @@ module _ (c : tie.After-ids2) where
 part-chunk-end : tie.Need-part-chunk-end
 part-chunk-end c =
     let s = asked c in
-    let l = accepted-exactly .typed-tells s (accepted-exactly .tells s (checked (begun c)) .0) .ids-array .0 in
+    let l = accepted-exactly .typed-facts s (accepted-exactly .accepted-facts s (checked (begun c)) .0) .ids-array .0 in
     let x : s .stream .count ≤ length (s .stream .ids) = omega (arith, l, plain c .count-is) in
     x
 

@@ -47,8 +47,8 @@ after-sign c =
 
 returns-3 : tie.Need-returns-3
 returns-3 c =
-    let told = c .before in
-    sym (after-sign (told .before .before) ∙ ap minusOf (told .size .given .1))
+    let sized = c .before in
+    sym (after-sign (sized .before .before) ∙ ap minusOf (sized .size .given .1))
 
 returns-4 : tie.Need-returns-4
 returns-4 c = sym (after-sign (c .before .before) ∙ ap minusOf (c .enum-told .given .1))

@@ -1,13 +1,13 @@
-#include "told.h"
+#include "tally.h"
 
 #include <inttypes.h>
 #include <stdio.h>
 
 #include "layout.h"
 
-Told nothing_told(Form form)
+Tally empty_tally(Form form)
 {
-    return (Told){ .form = form, .digest = 1 };
+    return (Tally){ .form = form, .digest = 1 };
 }
 
 /* The digest's modulus. It is 5 below 2 to the 32nd, so that a number's part above the low 32 bits
@@ -36,22 +36,22 @@ static uint64_t digest_two_bytes(uint64_t digest, size_t number)
     return digest_byte(digest, (uint8_t)number);
 }
 
-static void add_call(Told *told, const RawdhusaqRunReply *given, const uint8_t *answer,
+static void add_call(Tally *tally, const RawdhusaqRunReply *given, const uint8_t *answer,
     const RawdhusaqState *state)
 {
-    uint64_t digest = digest_byte(told->digest, given->number);
+    uint64_t digest = digest_byte(tally->digest, given->number);
     digest = digest_two_bytes(digest, given->length);
     digest = digest_two_bytes(digest, given->read);
     digest = digest_bytes(digest, answer, given->length);
-    if (told->form == TellDigest) {
+    if (tally->form == FormDigest) {
         uint8_t bytes[StateSize];
         state_to_bytes(state, bytes);
         digest = digest_bytes(digest, bytes, sizeof bytes);
     }
-    told->digest = digest;
-    told->calls++;
-    told->numbers[given->number]++;
-    told->bytes += given->length;
+    tally->digest = digest;
+    tally->calls++;
+    tally->numbers[given->number]++;
+    tally->bytes += given->length;
 }
 
 static void write_hex(const uint8_t *bytes, size_t count)
@@ -79,25 +79,25 @@ static void trace_call(const RawdhusaqRunReply *given, const uint8_t *answer,
     fputs("\n", stdout);
 }
 
-void tell_call(Told *told, const RawdhusaqRunReply *given, const uint8_t *answer,
+void tally_call(Tally *tally, const RawdhusaqRunReply *given, const uint8_t *answer,
     const RawdhusaqState *state)
 {
-    if (told->form == TellTrace) {
+    if (tally->form == FormTrace) {
         trace_call(given, answer, state);
     } else {
-        add_call(told, given, answer, state);
+        add_call(tally, given, answer, state);
     }
 }
 
-void tell_end(const Told *told)
+void tally_end(const Tally *tally)
 {
-    if (told->form == TellTrace) {
+    if (tally->form == FormTrace) {
         return;
     }
-    printf("calls %" PRIu64 " numbers", told->calls);
+    printf("calls %" PRIu64 " numbers", tally->calls);
     for (size_t i = 0; i < Numbers; i++) {
-        printf(" %" PRIu64, told->numbers[i]);
+        printf(" %" PRIu64, tally->numbers[i]);
     }
-    printf(" bytes %" PRIu64 " digest %" PRIu64 "\n", told->bytes,
-        told->digest % Modulus);
+    printf(" bytes %" PRIu64 " digest %" PRIu64 "\n", tally->bytes,
+        tally->digest % Modulus);
 }
