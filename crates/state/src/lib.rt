@@ -11,6 +11,7 @@
 // Proved (specs/Record.antt): which records are accepted, exactly; the power-on record is; each setter keeps a record accepted, under the condition on what it
 // sets; and (specs/Same.antt) the test of two records is equality.
 mod compare;
+mod items;
 mod setters;
 
 ghost use mathlib.Core.Path.{_≡_};
@@ -24,6 +25,7 @@ ghost use Rattle.state.specs.State.{powerOn, motorsOff};
 ghost use Rattle.state.specs.Accepted.{orderNamed, offUnlessDriven, wheelsLegal, dutiesLegal, motorsOk, keptOk, songOk, songsOk, streamOk, acceptedOf};
 pub use compare::same;
 use frame::Partial;
+pub use items::broken;
 pub use setters::to_passive;
 pub use setters::with_baud;
 pub use setters::with_duties;

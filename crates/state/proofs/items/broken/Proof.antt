@@ -1,0 +1,88 @@
+-- `state::items::broken` meets its contract: each mark is made of what an item's own function tells.
+-- Assumes nothing.
+use mathlib.Core.Path.{_≡_, refl}
+use mathlib.Core.Bool.{Bool, cond}
+use mathlib.Core.List.{List, _∷_}
+use Prim.Native.Nat.{ℕ}
+use borrow.Author.Needs.{needs}
+use Rattle.state.specs.Accepted.{brokenOf}
+use Rattle.state.proofs.items.broken.Statement.{statement}
+use Rattle.state.proofs.items.broken.Tie as tie
+
+-- a mark, made of what is told of an item, before the marks of those after it
+told : {r : ℕ} {given item : Bool} {rs marks : List ℕ} → r ≡ cond given 0 1 → given ≡ item → rs ≡ marks → r ∷ rs ≡ cond item 0 1 ∷ marks
+told e f g = rw (e, f, g) refl
+
+returns : tie.Need-returns
+unfolding brokenOf
+returns c =
+    let streaming-flag = c in
+    let playing-flag = streaming-flag .before .before in
+    let partial = playing-flag .before .before in
+    let ids = partial .before .before in
+    let notes = ids .before .before in
+    let playing = notes .before .before in
+    let lengths = playing .before .before in
+    let list = lengths .before .before in
+    let selected = list .before .before in
+    let baud = selected .before .before in
+    let outputs = baud .before .before in
+    let duties = outputs .before .before in
+    let wheels = duties .before .before in
+    let off = wheels .before .before in
+    let order = off .before .before in
+    let mode = order .before .before in
+    told (mode .mark .ensures) (mode .before .mode-named .ensures)
+    (told (order .mark2 .ensures) (order .before .order-named .ensures)
+    (told (off .mark3 .ensures) (off .before .off-unless-driven .ensures)
+    (told (wheels .mark4 .ensures) (wheels .before .wheels-legal .ensures)
+    (told (duties .mark5 .ensures) (duties .before .duties-legal .ensures)
+    (told (outputs .mark6 .ensures) (outputs .before .outputs-legal .ensures)
+    (told (baud .mark7 .ensures) (baud .before .baud-legal .ensures)
+    (told (selected .mark8 .ensures) (selected .before .selected-legal .ensures)
+    (told (list .mark9 .ensures) (list .before .stream-legal .ensures)
+    (told (lengths .mark10 .ensures) (lengths .before .lengths-legal .ensures)
+    (told (playing .mark11 .ensures) (playing .before .playing-set .ensures)
+    (told (notes .mark12 .ensures) (notes .before .notes-zero .ensures)
+    (told (ids .mark13 .ensures) (ids .before .ids-zero .ensures)
+    (told (partial .mark14 .ensures) (partial .before .partial-ok .ensures)
+    (told (playing-flag .mark15 .ensures) (playing-flag .before .is-flag .ensures)
+    (told (streaming-flag .mark16 .ensures) (streaming-flag .before .is-flag2 .ensures) refl)))))))))))))))
+
+pub broken-spec : {M : Type 1} → statement M
+broken-spec =
+    tie.close
+    (tie.spec
+    (λ c κs. search needs)
+    (λ c κs. search needs)
+    (λ c κs. search needs)
+    (λ c κs. search needs)
+    (λ c κs. search needs)
+    (λ c κs. search needs)
+    (λ c κs. search needs)
+    (λ c κs. search needs)
+    (λ c κs. search needs)
+    (λ c κs. search needs)
+    (λ c κs. search needs)
+    (λ c κs. search needs)
+    (λ c κs. search needs)
+    (λ c κs. search needs)
+    (λ c κs. search needs)
+    (λ c κs. search needs)
+    (λ c κs. search needs)
+    (λ c κs. search needs)
+    (λ c κs. search needs)
+    (λ c κs. search needs)
+    (λ c κs. search needs)
+    (λ c κs. search needs)
+    (λ c κs. search needs)
+    (λ c κs. search needs)
+    (λ c κs. search needs)
+    (λ c κs. search needs)
+    (λ c κs. search needs)
+    (λ c κs. search needs)
+    (λ c κs. search needs)
+    (λ c κs. search needs)
+    (λ c κs. search needs)
+    (λ c κs. search needs)
+    returns)
