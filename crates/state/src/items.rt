@@ -1,5 +1,6 @@
 // Which items of the record's test a record breaks, for one who made a record and asks what is
-// wrong with it: a function for each item. The board asks `accepts`, which looks at each part once.
+// wrong with it. Each item has a function, here or in lib.rt. The board itself asks `accepts`,
+// which goes through the record once and stops at the first item that does not hold.
 ghost use mathlib.Core.Path.{_≡_};
 ghost use mathlib.Core.Bool.{cond};
 ghost use Rattle.wire.specs.Lists.{all};
@@ -124,7 +125,7 @@ fn is_flag(flag: u8) -> bool
     flag <= crate::YES
 }
 
-// How an item is told.
+// What is told of an item.
 fn mark(holds: bool) -> u8
     ensures { λ r. ⌜ r ≡ cond holds 0 1 ⌝ }
 {

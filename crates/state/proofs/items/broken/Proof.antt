@@ -1,4 +1,4 @@
--- `state::items::broken` meets its contract: each mark is made of what an item's own function tells.
+-- `state::items::broken` meets its contract: each mark is made of what the item's function tells.
 -- Assumes nothing.
 use mathlib.Core.Path.{_≡_, refl}
 use mathlib.Core.Bool.{Bool, cond}

@@ -1,5 +1,4 @@
--- `state::items::lengths_legal` meets its contract. The invariant: what is left of the table to look
--- at decides.
+-- `state::items::lengths_legal` meets its contract. The invariant: the rest of the table decides.
 -- Assumes nothing.
 use mathlib.Core.Path.{_≡_, refl, sym, ap, _∙_}
 use mathlib.Core.Bool.{Bool, _&&_}

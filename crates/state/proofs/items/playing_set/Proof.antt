@@ -1,4 +1,4 @@
--- `state::items::playing_set` meets its contract: a song past the table's end is one that is not set.
+-- `state::items::playing_set` meets its contract: a song past the table's end is not set.
 -- Assumes nothing.
 use mathlib.Core.Path.{_≡_, sym, ap, _∙_}
 use mathlib.Core.List.{[]}

@@ -1,4 +1,4 @@
--- `state::items::stream_legal` meets its contract: what is tested of the ids in use is a Stream's rule.
+-- `state::items::stream_legal` meets its contract: the ids in use are held to a Stream's rule.
 -- Assumes nothing.
 use mathlib.Core.Path.{_≡_, sym, ap, _∙_}
 use Prim.Native.Nat.{ℕ, _≤_}
