@@ -62,7 +62,7 @@ mode-of m h = mode-named m (omega arith) ∙ le-leb m 3 h
 
 -- ---- a kind of wheel order
 
-order-named : (m : Motors) → m .order < 256 → orderNamed m ≡ leb (m .order) 2
+pub order-named : (m : Motors) → m .order < 256 → orderNamed m ≡ leb (m .order) 2
 unfolding orderNamed
 order-named m h = sym (alike (λ k. leb k 2) (among (0 ∷ 1 ∷ 2 ∷ [])) tt (m .order) h)
 
@@ -114,6 +114,13 @@ module _ (m : Motors) where
       go true b e h = f (eqb-true (m .order) 1 e)
       go false true e h = g (eqb-true (m .order) 2 h)
       go false false e h = refl
+
+  -- of a kind that is not named the numbers may be anything
+  pub unnamed-legal : orderNamed m ≡ false → wheelsLegal m ≡ true
+  unnamed-legal u = wheels-of (λ (o : m .order ≡ 1). named (omega arith)) (λ (o : m .order ≡ 2). named (omega arith))
+    where
+      named : {b : Bool} → m .order ≤ 2 → b ≡ true
+      named h = cc (sym u ∙ order-of m h)
 
 -- ---- duties
 

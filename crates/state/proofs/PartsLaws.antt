@@ -1,17 +1,17 @@
 -- A record is accepted exactly when each of its parts is; what is asked of a part, as facts.
 -- Assumes nothing.
-use mathlib.Core.Path.{_≡_, sym, ap, _∙_}
-use mathlib.Core.Bool.{Bool, true, _&&_}
-use mathlib.Core.List.{List}
+use mathlib.Core.Path.{_≡_, refl, sym, ap, _∙_}
+use mathlib.Core.Bool.{Bool, true, false, cond, _&&_}
+use mathlib.Core.List.{List, [], _∷_, map}
 use Prim.Native.Nat.{ℕ}
 use lib.Dec.{T, eqb, ltb, ltb→lt}
 use lib.ListN.{length, getD}
 use mir.Facts.{and-yes}
-use Rattle.wire.specs.Lists.{all}
+use Rattle.wire.specs.Lists.{all, allZero}
 use Rattle.wire.proofs.BoolLaws.{is-true, to-T, both, same-truth}
 use Rattle.wire.proofs.ListsLaws.{all-at, all-and}
 use Rattle.frame.specs.Reach.{reachableOf}
-use Rattle.state.specs.Accepted.{modeNamed, orderNamed, offUnlessDriven, wheelsLegal, dutiesLegal, outputsLegal, baudLegal, selectedLegal, streamLegal, lengthLegal, playingSet, notesZero, idsZero, isFlag, items, motorsTyped, keptTyped, songTyped, songsTyped, streamTyped, typed, acceptedOf, motorsOk, keptOk, songOk, songsOk, streamOk, partsOk}
+use Rattle.state.specs.Accepted.{modeNamed, orderNamed, offUnlessDriven, wheelsLegal, dutiesLegal, outputsLegal, baudLegal, selectedLegal, streamLegal, lengthLegal, playingSet, notesZero, idsZero, isFlag, items, motorsTyped, keptTyped, songTyped, songsTyped, streamTyped, typed, acceptedOf, brokenOf, motorsOk, keptOk, songOk, songsOk, streamOk, partsOk}
 use Rattle.state.specs.declared.Motors.{Motors}
 use Rattle.state.specs.declared.Kept.{Kept}
 use Rattle.state.specs.declared.Song.{Song}
@@ -220,3 +220,15 @@ module _ (s : State) where
   pub by-parts : acceptedOf s ≡ partsOk s
   by-parts =
       same-truth (acceptedOf s) (partsOk s) (λ t. to-T (partsOk s) (parts-ok (parts-of t))) (λ t. of-parts (ok-parts (is-true (partsOk s) t)))
+
+-- ---- what is broken
+
+-- every item holds where no mark is made
+unmarked : (l : List Bool) → all (λ item. item) l ≡ allZero (map (λ item. cond item 0 1) l)
+unmarked [] = refl
+unmarked (true ∷ l) = unmarked l
+unmarked (false ∷ l) = refl
+
+pub none-broken : (s : State) → acceptedOf s ≡ (typed s && allZero (brokenOf s))
+unfolding acceptedOf brokenOf
+none-broken s = ap (λ (b : Bool). typed s && b) (unmarked (items s))

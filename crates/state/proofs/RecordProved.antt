@@ -23,7 +23,7 @@ use Rattle.state.specs.Record.{Typed, Sets, SettersRight, PowerOnRight, 
 use Rattle.state.specs.declared.State.{State}
 use Rattle.state.proofs.StateLaws.{off-order, off-duties, off-so, set-so, no-songs}
 use Rattle.state.proofs.AcceptedLaws as accepted
-use Rattle.state.proofs.PartsLaws.{item-of, typed-of, typed-accepted, by-parts}
+use Rattle.state.proofs.PartsLaws.{item-of, typed-of, typed-accepted, by-parts, none-broken}
 use Rattle.state.proofs.KeepingLaws as keeping
 
 -- a setter whose laws compute
@@ -199,6 +199,7 @@ accepted-exactly = record {
   typed-so = typed-so;
   set-so = set-so;
   by-parts = by-parts;
+  none-broken = none-broken;
   accepted-facts = λ s t. (and-yes (typed s) (all (λ b. b) (items s)) t .0, plain-of s t);
   no-other = accepted-of;
 }

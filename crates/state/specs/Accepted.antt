@@ -1,7 +1,7 @@
 -- Which records the board takes (document 01, 'Bad record'): a bad record is one that isn't accepted.
 -- Assumes nothing.
 use mathlib.Core.Bool.{Bool, true, not, cond, _&&_, _||_}
-use mathlib.Core.List.{List, [], _∷_}
+use mathlib.Core.List.{List, [], _∷_, map}
 use Prim.Native.Nat.{ℕ, _*_}
 use lib.Dec.{leb, eqb}
 use lib.IntN.{ℤ, pos}
@@ -141,6 +141,10 @@ typed s = motorsTyped (s .motors) && (keptTyped (s .kept) && (songsTyped (s .son
 -- a value of the type of which every item holds
 unfoldable pub acceptedOf : State → Bool
 acceptedOf s = typed s && all (λ item. item) (items s)
+
+-- which items a record breaks, in their order: 1 for one that it breaks, and 0 for one that holds
+unfoldable pub brokenOf : State → List ℕ
+brokenOf s = map (λ item. cond item 0 1) (items s)
 
 -- ---- the same, part by part, for the contracts of the functions that test a part
 

@@ -9,7 +9,7 @@ use lib.IntN.{ℤ, pos}
 use lib.ListN.{length, getD, take}
 use mir.Syntax.{w16}
 use mir.Val.{SFits}
-use Rattle.wire.specs.Lists.{all}
+use Rattle.wire.specs.Lists.{all, allZero}
 use Rattle.frame.specs.Push.{emptyPartial}
 use Rattle.frame.specs.Reach.{reachableOf}
 use Rattle.frame.specs.declared.Partial.{Partial}
@@ -18,7 +18,7 @@ use Rattle.command.specs.CommandTable.{legalOf}
 use Rattle.command.specs.Commands.{message, isSpeed, isRadius, Sendable}
 use Rattle.command.specs.declared.Command.the-variants as cmd
 use Rattle.state.specs.State.{off, passive, safe, full, noOrder, drive, direct, motorsOff, unset, songAt, powerOn, withMode, withMotors, withKept, withSongs, withStream, withPartial, withWheels, withDuties, withBaud, withLeds, withOutputs, withInfrared, withSong, withSelected, withPlaying, withList, withStreaming, stop, toPassive}
-use Rattle.state.specs.Accepted.{isSet, items, typed, acceptedOf, motorsOk, keptOk, songsOk, streamOk, partsOk}
+use Rattle.state.specs.Accepted.{isSet, items, typed, acceptedOf, brokenOf, motorsOk, keptOk, songsOk, streamOk, partsOk}
 use Rattle.state.specs.Cases.{recordCases, casesRight, oddRecords}
 use Rattle.state.specs.declared.Motors.{Motors}
 use Rattle.state.specs.declared.Kept.{Kept}
@@ -177,6 +177,8 @@ pub record AcceptedExactly : Type 0 where
   pub no-other : (s : State) → T (typed s) → Plain s → T (acceptedOf s)
   -- the tests of the parts, which the code asks
   pub by-parts : (s : State) → acceptedOf s ≡ partsOk s
+  -- of the values of the type those are accepted that break no item
+  pub none-broken : (s : State) → acceptedOf s ≡ (typed s && allZero (brokenOf s))
 
 -- ---- what keeps a record accepted
 

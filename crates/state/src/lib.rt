@@ -10,7 +10,9 @@
 // The board's caller will hand a record in with each call, so it may be any value of the type. This crate says which are bad; the number 8 is the board's.
 // Proved (specs/Record.antt): which records are accepted, exactly; the power-on record is; each setter keeps a record accepted, under the condition on what it
 // sets; and (specs/Same.antt) the test of two records is equality.
+// `broken` tells which items of the test a record breaks: none, exactly where it is accepted.
 mod compare;
+mod items;
 mod setters;
 
 ghost use mathlib.Core.Path.{_≡_};
@@ -24,6 +26,7 @@ ghost use Rattle.state.specs.State.{powerOn, motorsOff};
 ghost use Rattle.state.specs.Accepted.{orderNamed, offUnlessDriven, wheelsLegal, dutiesLegal, motorsOk, keptOk, songOk, songsOk, streamOk, acceptedOf};
 pub use compare::same;
 use frame::Partial;
+pub use items::broken;
 pub use setters::to_passive;
 pub use setters::with_baud;
 pub use setters::with_duties;
