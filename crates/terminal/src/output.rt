@@ -71,7 +71,7 @@ pub fn say_bytes(bytes: &[u8]) -> usize {
 }
 
 fn say_visible(b: u8) {
-    if b > 32 && b < 127 {
+    if b >= 32 && b < 127 {
         say(&[b]);
     } else {
         say(b".");

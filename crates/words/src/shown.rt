@@ -1,89 +1,60 @@
 // How modes, numbers and commands are shown. Each gives back the columns that it took.
-use command::Command;
-use command::Message;
+use terminal::bits;
 use terminal::plus;
 use terminal::say;
+use terminal::say_form;
 use terminal::say_joined;
-use terminal::say_number;
-use terminal::say_signed;
 use terminal::wide;
 use terminal::within;
 
+fn at_most(n: usize, most: usize) -> usize {
+    if n <= most { n } else { most }
+}
+
 pub fn say_mode(mode: u8) -> usize {
-    match mode {
-        command::OFF => say(b"Off"),
-        command::PASSIVE => say(b"Passive"),
-        command::SAFE => say(b"Safe"),
-        command::FULL => say(b"Full"),
-        _ => plus(say(b"mode "), say_number(wide(mode))),
-    }
+    let n = wide(mode);
+    say_form(
+        b"[0 Off|Passive|Safe|Full|mode %1]",
+        [at_most(n, 4), n, 0, 0, 0, 0, 0, 0],
+    )
 }
 
-// Document 01's words for a number given back.
-fn meaning(number: u8) -> usize {
-    match number {
-        0 => say(b" done"),
-        1 => say(b" unknown opcode"),
-        2 => say(b" not offered"),
-        3 => say(b" wrong mode"),
-        4 => say(b" data not legal"),
-        5 => say(b" no song"),
-        6 => say(b" busy playing"),
-        7 => say(b" no room for the answer"),
-        8 => say(b" bad record"),
-        9 => say(b" waiting for more of the frame"),
-        _ => 0,
-    }
-}
-
+// The words for a number given back.
 pub fn say_meaning(number: u8) -> usize {
-    plus(say_number(wide(number)), meaning(number))
+    say_form(
+        b"[0 done|1 unknown opcode|2 not offered|3 wrong mode|4 data not legal|5 no song|\
+        6 busy playing|7 no room for the answer|8 bad record|9 waiting for more of the frame]",
+        [wide(number), 0, 0, 0, 0, 0, 0, 0],
+    )
 }
 
-// A name and its numbers, as a value is written.
-fn named(name: &[u8], numbers: &[u8]) -> usize {
-    let head = plus(say(name), say(b"("));
-    plus(head, plus(say_joined(numbers, b", "), say(b")")))
-}
-
-fn named_signed(name: &[u8], value: i8) -> usize {
-    let head = plus(say(name), say(b"("));
-    plus(head, plus(say_signed(wire::widen(value)), say(b")")))
-}
-
-fn named_pair(name: &[u8], a: i16, b: i16) -> usize {
-    let head = plus(plus(say(name), say(b"(")), say_signed(a));
-    plus(head, plus(plus(say(b", "), say_signed(b)), say(b")")))
-}
-
-fn say_command(command: Command) -> usize {
-    match command {
-        Command::Start => say(b"Start"),
-        Command::Baud(code) => named(b"Baud", &[code]),
-        Command::Control => say(b"Control"),
-        Command::Safe => say(b"Safe"),
-        Command::Full => say(b"Full"),
-        Command::Power => say(b"Power"),
-        Command::Demo(demo) => named_signed(b"Demo", demo),
-        Command::Spot => say(b"Spot"),
-        Command::Cover => say(b"Cover"),
-        Command::Dock => say(b"Dock"),
-        Command::Drive(velocity, radius) => named_pair(b"Drive", velocity, radius),
-        Command::Direct(right, left) => named_pair(b"Direct", right, left),
-        Command::Drivers(bits) => named(b"Drivers", &[bits]),
-        Command::Duties(two, one, zero) => named(b"Duties", &[two, one, zero]),
-        Command::Leds(bits, color, intensity) => named(b"Leds", &[bits, color, intensity]),
-        Command::Outputs(bits) => named(b"Outputs", &[bits]),
-        Command::Infrared(code) => named(b"Infrared", &[code]),
-        Command::Song(song, notes) => named(b"Song", &[song, notes]),
-        Command::Play(song) => named(b"Play", &[song]),
-        Command::Sensors(id) => named(b"Sensors", &[id]),
-        Command::QueryList(ids) => named(b"QueryList", &[ids]),
-        Command::Stream(ids) => named(b"Stream", &[ids]),
-        Command::Pause(on) => named(b"Pause", &[on]),
-        Command::Unknown(op) => named(b"Unknown", &[op]),
-        Command::NotOffered(op) => named(b"NotOffered", &[op]),
+// The place of an opcode's name in the form below: 18 is unknown, 24 not offered.
+fn name_of(op: u8) -> usize {
+    match op {
+        128..=151 => wide(op - 128),
+        152..=158 => 24,
+        _ => 18,
     }
+}
+
+fn say_command(bytes: [u8; 35]) -> usize {
+    let op = bytes[0];
+    say_form(
+        b"[0 Start|Baud(%1)|Control|Safe|Full|Power|Spot|Cover|Demo(~4)|Drive(~5, ~6)|Drivers(%1)|\
+        Leds(%1, %2, %3)|Song(%1, %2)|Play(%1)|Sensors(%1)|Dock|Duties(%1, %2, %3)|\
+        Direct(~5, ~6)|Unknown(%7)|Outputs(%1)|Stream(%1)|QueryList(%1)|Pause(%1)|Infrared(%1)|\
+        NotOffered(%7)]",
+        [
+            name_of(op),
+            wide(bytes[1]),
+            wide(bytes[2]),
+            wide(bytes[3]),
+            bits(wire::widen(wire::read8(bytes[1]))),
+            bits(wire::read16(bytes[1], bytes[2])),
+            bits(wire::read16(bytes[3], bytes[4])),
+            wide(op),
+        ],
+    )
 }
 
 fn legal(count: u8) -> usize {
@@ -94,25 +65,28 @@ fn legal(count: u8) -> usize {
     }
 }
 
-// How many bytes of the payload are a command's notes or ids; none past a legal count.
-fn used(command: Command) -> usize {
-    match command {
-        Command::Song(_, notes) => plus(legal(notes), legal(notes)),
-        Command::QueryList(ids) => legal(ids),
-        Command::Stream(ids) => legal(ids),
+// How many bytes behind its count are a frame's notes or ids; none past a legal count.
+fn used(bytes: [u8; 35]) -> usize {
+    match bytes[0] {
+        140 => plus(legal(bytes[2]), legal(bytes[2])),
+        148 | 149 => legal(bytes[1]),
         _ => 0,
     }
 }
 
-// A command as a value, and in brackets its notes or ids where it has some: Stream(2) [29, 13].
-pub fn say_value(message: Message) -> usize {
-    let command = message.command;
-    let payload = message.payload;
-    let n = within(used(command), &payload);
-    let name = say_command(command);
+// The command of a whole frame as a value, and in brackets its notes or ids where it has some:
+// Stream(2) [29, 13].
+pub fn say_value(bytes: [u8; 35]) -> usize {
+    let name = say_command(bytes);
+    let n = used(bytes);
     if n == 0 {
         return name;
     }
-    let list = plus(say(b" ["), say_joined(&payload[0..n], b", "));
+    let from = if bytes[0] == 140 { 3 } else { 2 };
+    let end = within(plus(from, n), &bytes);
+    if end < from {
+        return name;
+    }
+    let list = plus(say(b" ["), say_joined(&bytes[from..end], b", "));
     plus(name, plus(list, say(b"]")))
 }

@@ -10,9 +10,11 @@ use terminal::say_wanted;
 use terminal::say_where;
 use terminal::signed_from;
 
-// Not ok where the values were bad, and then it has been said.
+// A command, and the first bytes of its frame. Not ok where the values were bad, and then it has
+// been said.
 pub struct Typed {
     pub message: Message,
+    pub bytes: [u8; 35],
     pub ok: bool,
 }
 
@@ -178,6 +180,7 @@ pub fn message_from(op: u8, text: &[u8], from: usize, line_number: usize) -> Typ
     let message = command::decode(bytes);
     Typed {
         message,
+        bytes,
         ok: framed.ok,
     }
 }
