@@ -27,6 +27,10 @@ pub record Said : Type 0 where
 abbrev says : List ℕ → Number → Said
 says word n = record { word = word; number = n }
 
+-- 0x before digits
+abbrev hex : List ℕ → List ℕ
+hex ds = 48 ∷ 120 ∷ ds
+
 abbrev pub numberCases : List Said
 numberCases =
     -- 0, 255, 007, 65535, 65536, twelve 9s
@@ -50,6 +54,37 @@ numberCases =
     ∷ says (47 ∷ []) NotANumber
     ∷ says (58 ∷ []) NotANumber
     ∷ says (replicate 12 57 ++ (97 ∷ [])) NotANumber
+    -- 0x80, 0x0, 0x009, 0xFFFF, 0xffff, 0xaF, 0x10000, twelve Fs
+    ∷ says (hex (56 ∷ 48 ∷ [])) (Plain 128)
+    ∷ says (hex (48 ∷ [])) (Plain 0)
+    ∷ says (hex (48 ∷ 48 ∷ 57 ∷ [])) (Plain 9)
+    ∷ says (hex (replicate 4 70)) (Plain 65535)
+    ∷ says (hex (replicate 4 102)) (Plain 65535)
+    ∷ says (hex (97 ∷ 70 ∷ [])) (Plain 175)
+    ∷ says (hex (49 ∷ replicate 4 48)) TooLarge
+    ∷ says (hex (replicate 12 70)) TooLarge
+    -- -0x10, -0x1F4, -0xFFFF, -0x10000
+    ∷ says (45 ∷ hex (49 ∷ 48 ∷ [])) (Minus 16)
+    ∷ says (45 ∷ hex (49 ∷ 70 ∷ 52 ∷ [])) (Minus 500)
+    ∷ says (45 ∷ hex (replicate 4 70)) (Minus 65535)
+    ∷ says (45 ∷ hex (49 ∷ replicate 4 48)) TooLarge
+    -- 0x, -0x, 0x-1, 0X80, x80, 00x80, 0x0x8; ff, which is no decimal number
+    ∷ says (hex []) NotANumber
+    ∷ says (45 ∷ hex []) NotANumber
+    ∷ says (hex (45 ∷ 49 ∷ [])) NotANumber
+    ∷ says (48 ∷ 88 ∷ 56 ∷ 48 ∷ []) NotANumber
+    ∷ says (120 ∷ 56 ∷ 48 ∷ []) NotANumber
+    ∷ says (48 ∷ hex (56 ∷ 48 ∷ [])) NotANumber
+    ∷ says (hex (hex (56 ∷ []))) NotANumber
+    ∷ says (102 ∷ 102 ∷ []) NotANumber
+    -- the bytes beside the digits, 0x/, 0x:, 0x@, 0xG, 0x`, 0xg; twelve Fs and a g
+    ∷ says (hex (47 ∷ [])) NotANumber
+    ∷ says (hex (58 ∷ [])) NotANumber
+    ∷ says (hex (64 ∷ [])) NotANumber
+    ∷ says (hex (71 ∷ [])) NotANumber
+    ∷ says (hex (96 ∷ [])) NotANumber
+    ∷ says (hex (103 ∷ [])) NotANumber
+    ∷ says (hex (replicate 12 70 ++ (103 ∷ []))) NotANumber
     ∷ []
 
 abbrev pub numberRight : Said → Bool

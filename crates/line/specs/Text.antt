@@ -20,10 +20,6 @@ isNewline b = eqb b 10
 abbrev pub isBlank : ℕ → Bool
 isBlank b = eqb b 32 || (eqb b 9 || eqb b 13)
 
--- 0 to 9
-abbrev pub isDigit : ℕ → Bool
-isDigit b = within 48 57 b
-
 -- ---- runs of bytes
 
 -- how many bytes at the front pass a test
@@ -50,18 +46,35 @@ wordFrom text from =
 abbrev pub largest : ℕ
 largest = 65535
 
--- the number that decimal digits say; acc is that of the digits before
-abbrev pub valueFrom : ℕ → List ℕ → ℕ
-valueFrom acc [] = acc
-valueFrom acc (d ∷ ds) = valueFrom (acc * 10 + (d - 48)) ds
+-- what a byte is worth as a digit: 0 to 9, then A to F or a to f. One that is no digit is worth 16.
+abbrev pub digitValue : ℕ → ℕ
+digitValue b = cond (within 48 57 b) (b - 48) (cond (within 65 70 b) (b - 65 + 10) (cond (within 97 102 b) (b - 97 + 10) 16))
+
+-- a digit of a base of at most 16
+abbrev pub isDigit : ℕ → ℕ → Bool
+isDigit base b = ltb (digitValue b) base
+
+-- the number that digits of a base say; acc is that of the digits before
+abbrev pub valueFrom : ℕ → ℕ → List ℕ → ℕ
+valueFrom base acc [] = acc
+valueFrom base acc (d ∷ ds) = valueFrom base (acc * base + digitValue d) ds
 
 -- at least one digit, and nothing else
-abbrev pub areDigits : List ℕ → Bool
-areDigits ds = not (eqb (length ds) 0) && all isDigit ds
+abbrev pub areDigits : ℕ → List ℕ → Bool
+areDigits base ds = not (eqb (length ds) 0) && all (isDigit base) ds
 
--- a number without a sign
+-- what digits say as a number
+abbrev pub numeralOf : ℕ → List ℕ → Number
+numeralOf base ds =
+    cond (areDigits base ds) (cond (leb (valueFrom base 0 ds) largest) (Plain (valueFrom base 0 ds)) TooLarge) NotANumber
+
+-- the word begins with 0x
+abbrev pub beginsHex : List ℕ → Bool
+beginsHex word = eqb (getD word 0 0) 48 && eqb (getD word 1 0) 120
+
+-- a number without a sign: hexadecimal after 0x, else decimal
 abbrev pub unsignedOf : List ℕ → Number
-unsignedOf ds = cond (areDigits ds) (cond (leb (valueFrom 0 ds) largest) (Plain (valueFrom 0 ds)) TooLarge) NotANumber
+unsignedOf word = cond (beginsHex word) (numeralOf 16 (drop 2 word)) (numeralOf 10 word)
 
 -- with a minus sign before it
 abbrev pub minusOf : Number → Number

@@ -5,7 +5,7 @@ ghost use Prim.Native.Nat.{_+_, _-_, _≤_};
 ghost use lib.Dec.{leb};
 ghost use lib.ListN.{length, drop};
 ghost use Rattle.wire.specs.Buffer.{placed};
-ghost use Rattle.line.specs.Text.{isBlank, isDigit, front, passes, wordFrom, unsignedOf, signedOf, partOf, gatheredOf};
+ghost use Rattle.line.specs.Text.{isBlank, digitValue, beginsHex, front, passes, wordFrom, numeralOf, unsignedOf, signedOf, partOf, gatheredOf};
 
 // What a word says as a number.
 pub enum Number {
@@ -47,10 +47,17 @@ fn is_blank(b: u8) -> bool
     b == 32 || (b == 9 || b == 13)
 }
 
-fn is_digit(b: u8) -> bool
-    ensures { λ r. ⌜ r ≡ isDigit b ⌝ }
+// What a byte is worth as a digit. A byte that is no digit is worth 16, more than any digit of a
+// base up to 16.
+fn digit_value(b: u8) -> usize
+    ensures { λ r. ⌜ r ≡ digitValue b ⌝ }
 {
-    48 <= b && b <= 57
+    match b {
+        b'0'..=b'9' => (b - b'0') as usize,
+        b'A'..=b'F' => (b - b'A' + 10) as usize,
+        b'a'..=b'f' => (b - b'a' + 10) as usize,
+        _ => 16,
+    }
 }
 
 fn is_passed(kind: u8, b: u8) -> bool
@@ -100,9 +107,10 @@ pub fn next_word(text: &[u8], from: usize) -> Word
     Word { start, end }
 }
 
-// A number without a sign.
-pub fn unsigned(word: &[u8]) -> Number
-    ensures { λ r. ⌜ r ≡ unsignedOf (now (word .entry)) ⌝ }
+// A number in a base: digits up to the end of the word. The base is small, so that a product fits.
+fn numeral(word: &[u8], base: usize) -> Number
+    requires { ⌜ (1 ≤ base) × (base ≤ 16) ⌝ }
+    ensures { λ r. ⌜ r ≡ numeralOf base (now (word .entry)) ⌝ }
 {
     if word.len() == 0 {
         return Number::NotANumber;
@@ -110,11 +118,11 @@ pub fn unsigned(word: &[u8]) -> Number
     let mut value = 0;
     let mut i = 0;
     while i < word.len() {
-        let d = word[i];
-        if !is_digit(d) {
+        let d = digit_value(word[i]);
+        if d >= base {
             return Number::NotANumber;
         }
-        let n = value * 10 + ((d - 48) as usize);
+        let n = value * base + d;
         // Any digits after a number that is too large leave it too large.
         value = if n <= LARGEST { n } else { LARGEST + 1 };
         i += 1;
@@ -123,6 +131,22 @@ pub fn unsigned(word: &[u8]) -> Number
         return Number::Plain(value);
     }
     Number::TooLarge
+}
+
+fn begins_hex(word: &[u8]) -> bool
+    ensures { λ r. ⌜ r ≡ beginsHex (now (word .entry)) ⌝ }
+{
+    2 <= word.len() && (word[0] == b'0' && word[1] == b'x')
+}
+
+// A number without a sign: hexadecimal after 0x, else decimal.
+pub fn unsigned(word: &[u8]) -> Number
+    ensures { λ r. ⌜ r ≡ unsignedOf (now (word .entry)) ⌝ }
+{
+    if begins_hex(word) {
+        return numeral(&word[2..], 16);
+    }
+    numeral(word, 10)
 }
 
 // What a word says as a number, with a sign or without.

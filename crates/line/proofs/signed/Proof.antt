@@ -5,8 +5,7 @@ use mathlib.Core.List.{List, [], _∷_}
 use Prim.Native.Nat.{ℕ, _-_}
 use native.Mathlib.Omega.{arith}
 use lib.Dec.{eqb}
-use lib.ListN.{length, getD, take, drop, length-drop}
-use lib.Seq.{take-length}
+use lib.ListN.{length, getD, take, drop}
 use types.Run.{OneOf}
 use denote.Enum.Declared.{tagOf}
 use borrow.Author.Needs.{needs}
@@ -18,6 +17,7 @@ use Rattle.line.specs.Text.{unsignedOf, minusOf, signedOf}
 use Rattle.line.specs.declared.Number.{Number}
 use Rattle.line.specs.declared.Number.the-variants.{NotANumber, TooLarge, Plain, Minus}
 use Rattle.line.proofs.Number.{the-type}
+use Rattle.line.proofs.TextLaws.{rest-is}
 use Rattle.line.proofs.signed.Statement.{statement}
 use Rattle.line.proofs.signed.Tie as tie
 
@@ -39,11 +39,9 @@ after-sign : (c : tie.After-unsigned2)
     signedOf word ≡ minusOf (c .unsigned2 .result)
 after-sign c =
     let word = c .before .before .before .before .before .before .args .word .now in
-    let part : take (length word - 1) (drop 1 word) ≡ drop 1 word =
-    ap (λ (n : ℕ). take n (drop 1 word)) (sym (length-drop 1 word)) ∙ take-length (drop 1 word) in
     let x : c .unsigned2 .result ≡ unsignedOf (take (length word - 1) (drop 1 word)) = c .unsigned2 .ensures in
     cond-true (eqb (getD word 0 0) 45) (minusOf (unsignedOf (drop 1 word))) (unsignedOf word) (eq-eqb (getD word 0 0) 45 (c .before .before .if2 .left))
-    ∙ ap minusOf (sym (x ∙ ap unsignedOf part))
+    ∙ ap minusOf (sym (x ∙ ap unsignedOf (rest-is word 1)))
 
 returns-3 : tie.Need-returns-3
 returns-3 c =
