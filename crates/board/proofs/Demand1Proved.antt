@@ -27,7 +27,8 @@ use Rattle.board.proofs.CallsLaws.{checked-bad, messageOf, takes-accept
 
 -- ---- what a call gives
 
--- of every outcome: its number is one of these, 1 to 7 leave that record, an answer is given with 0 alone, and has room
+-- of every outcome: its number is one of these, 1 to 7 leave that record, an answer is given with 0
+-- alone, and has room
 record OutcomeFacts (numbers : List ℕ) (left : State) (room : ℕ) (o : Outcome) : Type 0 where
   numbered : T (among numbers (o .number))
   leaves : 1 ≤ o .number → o .number ≤ 7 → o .state ≡ left

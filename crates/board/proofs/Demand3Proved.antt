@@ -332,7 +332,8 @@ song-illegal : (x k : ℕ) → legalOf (decodeOf (longSong x k .bytes)) ≡ fals
 unfolding commandOf decodeOf
 song-illegal x k = data-column .song-legal x 255 (replicate 32 0) tt ∙ and-false (leb x 15)
 
--- in Full, and, where the record is accepted, k more bytes of 140 x 255 are to come; after the last of them anything may be held
+-- in Full, and, where the record is accepted, k more bytes of 140 x 255 are to come; after the last
+-- of them anything may be held
 record InSong (x k : ℕ) (s : State) : Type 0 where
   in-full : s .mode ≡ 3
   song : 0 < k → T (acceptedOf s) → s .partial ≡ longSong x k

@@ -128,7 +128,8 @@ numbered r = within 1 7 (r .number)
 abbrev passed : Rule → Bool
 passed r = not (r .when)
 
--- what holds of each number from 1 to 7 with the record as it is, and of the outcome otherwise, where no rule applies, holds of what is given
+-- what holds of each number from 1 to 7 with the record as it is, and of the outcome otherwise,
+-- where no rule applies, holds of what is given
 module _ (P : Outcome → Type 0) (s : State) (refused : (n : ℕ) → 1 ≤ n → n ≤ 7 → P (gives n s)) where
   one-rule : (n : ℕ) (b : Bool) (x : Outcome) → T (within 1 7 n) → (T (not b) → P x) → P (cond b (gives n s) x)
   one-rule n true x t f = let a = and-yes (leb 1 n) (leb n 7) t in refused n (leb→le 1 n (a .0)) (leb→le n 7 (a .1))

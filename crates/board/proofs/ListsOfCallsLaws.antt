@@ -20,7 +20,8 @@ use Rattle.board.proofs.CallsLaws.{checked-is, byte-bad, byte-next, byt
 
 -- ---- the first byte of a slice
 
--- the record is bad; the byte gives 9, and the rest follows; it gives another number, and is the last
+-- the record is bad; the byte gives 9, and the rest follows; it gives another number, and is
+-- the last
 pub data Fed (s : State) (b : ℕ) (bs image : List ℕ) (room : ℕ) : Type 0 where
   none : acceptedOf s ≡ false → feed s (b ∷ bs) image room ≡ performed (gives 8 s) 0 → readingsOf s (b ∷ bs) image room ≡ [] → Fed s b bs image room
   more : T (acceptedOf s) → byteOf s b image room .number ≡ 9

@@ -47,7 +47,8 @@ ran-met d e m = (m .0 ∙ ap ranAs (sym e), m .1 ∙ ap (λ (x : Performed). wri
 pub ran-gives : {x : Performed} {r : Ran} {n : ℕ} {s : State} {k : ℕ} (d : List ℕ) → x ≡ performed (gives n s) k → r ≡ ranAs (performed (gives n s) k) → RanMet x r d d
 ran-gives {n = n} {s = s} d e g = ran-met d e (g, nothing-written n s d)
 
--- ---- a whole frame: its command is judged at the record with the frame still held, and what it leaves has nothing held
+-- ---- a whole frame: its command is judged at the record with the frame still held, and what it
+-- leaves has nothing held
 
 -- of a message and a buffer that are others
 pub sent-of : (s : State) (image : List ℕ) {m m′ : Message} {d d₀ d′ : List ℕ} {sent : Sent} → m ≡ m′ → d ≡ d₀

@@ -1,4 +1,5 @@
--- Laws of a frame that is read byte by byte: each byte before the last waits, and the last is judged.
+-- Laws of a frame that is read byte by byte: each byte before the last waits, and the last
+-- is judged.
 -- Assumes nothing.
 use mathlib.Core.Path.{_≡_, refl, sym, ap, ap₂, subst, _∙_}
 use mathlib.Core.Bool.{Bool, true, false}

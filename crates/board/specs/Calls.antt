@@ -1,4 +1,5 @@
--- The five calls, and lists of them (document 01, 'Numbers given back', 'Safety reports', 'Packets and chunks', 'The run of 128s').
+-- The five calls, and lists of them (document 01, 'Numbers given back', 'Safety reports', 'Packets
+-- and chunks', 'The run of 128s').
 -- Assumes nothing.
 use mathlib.Core.Bool.{Bool, not, cond, _&&_, _||_}
 use mathlib.Core.List.{List, [], _∷_, _++_, map}
@@ -26,7 +27,8 @@ checked s o = cond (acceptedOf s) o (gives 8 s)
 
 -- ---- a byte
 
--- what a pushed byte does: 9, the frame not complete and the byte taken; or the command is judged, its frame read past
+-- what a pushed byte does: 9, the frame not complete and the byte taken; or the command is judged,
+-- its frame read past
 unfoldable pub fedOf : State → Pushed → List ℕ → ℕ → Outcome
 fedOf s p image room =
     cond (p .complete)
@@ -38,14 +40,15 @@ byteOf s b image room = checked s (fedOf s (pushOf (s .partial) b) image room)
 
 -- ---- a safety report
 
--- document 02, Two: neither wheel is above 0, the two differ, and 129 times their sum's absolute value is below 165 times their difference's
+-- document 02, Two: neither wheel is above 0, the two differ, and 129 times their sum's absolute
+-- value is below 165 times their difference's
 unfoldable pub backsRound : ℤ → ℤ → Bool
 backsRound right left =
     not (ltZ (pos 0) right || ltZ (pos 0) left)
     && ((ltZ right left || ltZ left right) && ltb (129 * natAbs (right +ℤ left)) (165 * natAbs (right -ℤ left)))
 
--- the base moves into a cliff: Drive with velocity above 0; Drive with velocity below 0 and radius strictly between -165 and 165; Direct with either
--- wheel above 0; Direct that backs round it
+-- the base moves into a cliff: Drive with velocity above 0; Drive with velocity below 0 and radius
+-- strictly between -165 and 165; Direct with either wheel above 0; Direct that backs round it
 unfoldable pub intoCliff : Motors → Bool
 intoCliff m =
     (eqb (m .order) drive && ltZ (pos 0) (m .first))

@@ -1,5 +1,5 @@
--- Demand 3: after any list of calls that reads at least 511 bytes, all 128, from any accepted record, the board is idle; and 511 is the least
--- (document 01, 'The run of 128s').
+-- Demand 3: after any list of calls that reads at least 511 bytes, all 128, from any accepted
+-- record, the board is idle; and 511 is the least (document 01, 'The run of 128s').
 -- Assumes nothing.
 use mathlib.Core.Path.{_≡_}
 use mathlib.Core.Bool.{false}
@@ -26,7 +26,8 @@ lastNumber [] = 9
 lastNumber (n ∷ []) = n
 lastNumber (n ∷ (m ∷ ns)) = lastNumber (m ∷ ns)
 
--- THEOREM: the bytes read one by one, which is how their numbers are defined, are those that the calls count
+-- THEOREM: the bytes read one by one, which is how their numbers are defined, are those that the
+-- calls count
 pub record CountsAgree : Type 0 where
   pub same-bytes : (s : State) (c : Call) → map (λ r. r .byte) (readingsIn s c) ≡ bytesIn s c
   pub same-count : (s : State) (c : Call) → length (readingsIn s c) ≡ perform s c .read
@@ -34,7 +35,8 @@ pub record CountsAgree : Type 0 where
   -- a byte that is read has the number that its call gives
   pub byte-number : (s : State) (b : ℕ) (image buffer : List ℕ) → T (acceptedOf s)
       → map (λ r. outcomeAt r .number) (readingsIn s (byte b image buffer)) ≡ perform s (byte b image buffer) .outcome .number ∷ []
-  -- a run counts the bytes up to the first that ends a frame, by the cut alone; all of them, where none does
+  -- a run counts the bytes up to the first that ends a frame, by the cut alone; all of them, where
+  -- none does
   pub run-count : (s : State) (bs image buffer : List ℕ) → T (acceptedOf s) → T (allBytes bs)
       → perform s (run bs image buffer) .read ≡ upToTrue (completed (s .partial) bs)
   -- it reports the number of its last byte, and 9 where it has read none
@@ -45,13 +47,15 @@ pub record CountsAgree : Type 0 where
 abbrev pub noReading : Reading
 noReading = reading powerOn 0 [] 0
 
--- the number of the command that byte k ends, at the record then in force: its frame is the held one, with the 128s up to that one
+-- the number of the command that byte k ends, at the record then in force: its frame is the held
+-- one, with the 128s up to that one
 abbrev pub endsHeld : State → List Call → ℕ → ℕ
 endsHeld s cs k =
     let r = getD (readings s cs) k noReading in
     judgeOf (withPartial emptyPartial (r .state)) (decodeOf (pushOf (afterOf (s .partial) (replicate k 128)) 128 .partial .bytes)) (r .image) (r .room) .number
 
--- what holds of a list of calls from s that reads nothing but 128s. Bytes are counted from 0, so that the named one is byte `untilOpcode`.
+-- what holds of a list of calls from s that reads nothing but 128s. Bytes are counted from 0, so
+-- that the named one is byte `untilOpcode`.
 pub record RunOf128s (s : State) (cs : List Call) : Type 0 where
   -- the named byte is the first that is read as an opcode, and all later ones are too
   pub opcode-at : (k : ℕ) → k < length (bytesRead s cs) → getD (opcodesRead s cs) k false ≡ leb (untilOpcode (s .partial)) k
@@ -101,7 +105,8 @@ pub record NeedsAll (cs : List Call) : Type 0 where
 pub record Demand3 : Type 0 where
   pub idle-facts : (s : State) → T (idle s) → IdleFacts s
   pub counts-agree : CountsAgree
-  -- the cut never depends on the mode, nor on a refusal: calls that read no byte leave the held frame alone, and bytes of any values are cut as `next` does
+  -- the cut never depends on the mode, nor on a refusal: calls that read no byte leave the held
+  -- frame alone, and bytes of any values are cut as `next` does
   pub cut : (s : State) (cs : List Call) → after s cs .partial ≡ afterOf (s .partial) (bytesRead s cs)
   -- enough; and a board that does nothing, or whose run feeds its first byte alone, does not pass
   pub ends-idle : EndsIdle perform

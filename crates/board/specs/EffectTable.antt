@@ -1,5 +1,6 @@
--- The column of effects (document 01, 'Commands at their last byte') as data, row by row: samples of every command, each judged in all four modes. What they
--- expect is written out, and cites no effect, mode or range of the rules.
+-- The column of effects (document 01, 'Commands at their last byte') as data, row by row: samples
+-- of every command, each judged in all four modes. What they expect is written out, and cites no
+-- effect, mode or range of the rules.
 -- Assumes nothing.
 use mathlib.Core.Bool.{Bool, true, false, cond}
 use mathlib.Core.List.{List, [], _∷_, map, flatten}
@@ -66,8 +67,8 @@ row modes es = record { modes = modes; entries = es }
 abbrev song : ℕ → List ℕ → Song
 song n notes = record { len = n; notes = padded 32 notes }
 
--- document 01's rows, in its order; 136 has the row that document 02's request One gives it. Modes are 0 Off, 1 Passive, 2 Safe, 3 Full; the image's
--- byte at place k is 100 + k.
+-- document 01's rows, in its order; 136 has the row that document 02's request One gives it. Modes
+-- are 0 Off, 1 Passive, 2 Safe, 3 Full; the image's byte at place k is 100 + k.
 abbrev pub effectTable : List EffectRow
 effectTable =
     row (0 ∷ 1 ∷ 2 ∷ 3 ∷ []) (stopping 128 (nothingSet [] ∷ []) ∷ [])
@@ -160,8 +161,8 @@ effectTable =
 abbrev stopped : State → State
 stopped s = withDuties (0 ∷ 0 ∷ 0 ∷ []) (withWheels 0 (pos 0) (pos 0) s)
 
--- a record of each mode with a value in every part: in Safe and Full the motors run, songs 0 and 15 are set and none plays, song 3 is selected, the list
--- 29 13 is streamed, half a Drive is read
+-- a record of each mode with a value in every part: in Safe and Full the motors run, songs 0 and 15
+-- are set and none plays, song 3 is selected, the list 29 13 is streamed, half a Drive is read
 abbrev pub sampleRecord : ℕ → State
 sampleRecord mode =
     let s = withSelected 3 (withPlaying 0 (withMode mode moving)) in
@@ -177,7 +178,8 @@ enter (becomes mode) s = withMode mode s
 abbrev stopIf : Bool → State → State
 stopIf b s = cond b (stopped s) s
 
--- in a mode of the row 0, the effect and the answer, which fits; in every other mode 3, and the record as it was
+-- in a mode of the row 0, the effect and the answer, which fits; in every other mode 3, and the
+-- record as it was
 abbrev expected : List ℕ → Entry → Sample → ℕ → State → Outcome
 expected modes e x mode s = cond (among modes mode) (answers (x .answer) (x .sets (stopIf (e .stops) (enter (e .after) s)))) (gives 3 s)
 

@@ -1,5 +1,5 @@
--- What a command does when its last byte comes, by the mode then in force (document 01, 'Commands at their last byte', 'Numbers given back').
--- It knows no bytes of a frame.
+-- What a command does when its last byte comes, by the mode then in force (document 01, 'Commands
+-- at their last byte', 'Numbers given back'). It knows no bytes of a frame.
 -- Assumes nothing.
 use mathlib.Core.Bool.{Bool, false, not, cond}
 use mathlib.Core.List.{List, [], _∷_}
@@ -26,7 +26,8 @@ use Rattle.board.specs.Outcome.{Outcome, gives, answers}
 abbrev pub ofOrder : ℕ → Motors → ℤ → ℤ
 ofOrder kind m v = cond (eqb (m .order) kind) v (pos 0)
 
--- from the state: 36 is the selected song though it is not set, 38 the list's length though streaming is off
+-- from the state: 36 is the selected song though it is not set, 38 the list's length though
+-- streaming is off
 unfoldable pub statusOf : State → Status
 statusOf s =
     record {
@@ -46,7 +47,8 @@ statusOf s =
 abbrev pub dutyOf : ℕ → ℕ → ℕ
 dutyOf bits place = cond (eqb (bits / place % 2) 1) 128 0
 
--- what a command needs, beside its mode and legal data: nothing; that a song is set and none plays; room for the answer of these packets
+-- what a command needs, beside its mode and legal data: nothing; that a song is set and none plays;
+-- room for the answer of these packets
 pub data Needs : Type 0 where
   nothing : Needs
   aSong : ℕ → Needs
@@ -66,7 +68,8 @@ plays n f = record { sets = f; needs = aSong n }
 abbrev asks : List ℕ → Effect
 asks ids = record { sets = λ s. s; needs = packets ids }
 
--- what a command does, by the payload that came with it, in the order of document 01's rows. 'Passive, stop' is toPassive.
+-- what a command does, by the payload that came with it, in the order of document 01's rows.
+-- 'Passive, stop' is toPassive.
 abbrev pub effectOf : Command → List ℕ → Effect
 effectOf cmd.Start p = does toPassive
 -- code kept; Passive, stop

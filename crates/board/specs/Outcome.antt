@@ -1,4 +1,5 @@
--- What a call gives (document 01, 'Numbers given back'): both equations of a call's contract are read off one outcome.
+-- What a call gives (document 01, 'Numbers given back'): both equations of a call's contract are
+-- read off one outcome.
 -- Assumes nothing.
 use mathlib.Core.Bool.{Bool, cond, _&&_}
 use mathlib.Core.List.{List, []}

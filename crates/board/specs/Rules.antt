@@ -1,6 +1,7 @@
--- The rules for every record and every value, in document 01's words: each case of a call beside what it gives. They cite the columns of modes and legal data, the packets
--- and the setters, and none of this crate's own tests but `intoCliff`, in laws about it alone. The tables of cases stand at chosen values, and a rule that is wrong between them would
--- pass those.
+-- The rules for every record and every value, in document 01's words: each case of a call beside
+-- what it gives. They cite the columns of modes and legal data, the packets and the setters, and
+-- none of this crate's own tests but `intoCliff`, in laws about it alone. The tables of cases stand
+-- at chosen values, and a rule that is wrong between them would pass those.
 -- Assumes nothing.
 use mathlib.Core.Path.{_≡_}
 use mathlib.Core.Bool.{Bool, true, false, cond, _&&_, _||_}
@@ -32,7 +33,8 @@ use Rattle.board.specs.Calls.{byteOf, intoCliff, reportOf, tickOf, songE
 
 -- ---- commands
 
--- in each of its modes, with legal data, it gives 0 with this record and no answer, whatever the image and the room
+-- in each of its modes, with legal data, it gives 0 with this record and no answer, whatever the
+-- image and the room
 abbrev pub Does : Command → List ℕ → (State → State) → Type 0
 Does c p f =
     (s : State) (image : List ℕ) (room : ℕ) → allowedOf c (s .mode) ≡ true → legalOf (message c p) ≡ true
@@ -132,7 +134,8 @@ pub record ByteRight (s : State) (b : ℕ) (image : List ℕ) (room : ℕ) : Typ
   pub judged : pushOf (s .partial) b .complete ≡ true
       → byteOf s b image room ≡ judgeOf (withPartial emptyPartial s) (decodeOf (pushOf (s .partial) b .partial .bytes)) image room
 
--- THEOREM: a run: no bytes; a first one that gives 9, and then the rest; and one that gives another number
+-- THEOREM: a run: no bytes; a first one that gives 9, and then the rest; and one that gives
+-- another number
 pub record RunRight (s : State) (image : List ℕ) (room : ℕ) : Type 0 where
   pub none : runOf s [] image room ≡ performed (gives 9 s) 0
   pub more : (b : ℕ) (bs : List ℕ) → b < 256 → byteOf s b image room .number ≡ 9
@@ -153,7 +156,8 @@ pub record ReportRight (s : State) : Type 0 where
       reportOf s false true false ≡ gives 0 (cond (ltZ (pos 0) v || (ltZ v (pos 0) && (ltZ (minus 165) r && ltZ r (pos 165)))) (toPassive s) s)
   pub cliff-direct : s .mode ≡ 2 → s .motors .order ≡ 2 → (ltZ (pos 0) (s .motors .first) || ltZ (pos 0) (s .motors .second)) ≡ true
       → reportOf s false true false ≡ gives 0 (toPassive s)
-  -- document 02, Two: neither above 0, the right wheel backwards by p and the left by q; p - q and q - p stop at 0, so that their sum is how far apart the two are
+  -- document 02, Two: neither above 0, the right wheel backwards by p and the left by q; p - q and
+  -- q - p stop at 0, so that their sum is how far apart the two are
   pub cliff-backing : s .mode ≡ 2 → s .motors .order ≡ 2 → (p q : ℕ) → s .motors .first ≡ minus p → s .motors .second ≡ minus q
       → reportOf s false true false ≡ gives 0 (cond (ltb (129 * (p + q)) (165 * (p - q + (q - p)))) (toPassive s) s)
   pub cliff-none : s .motors .order ≡ 0 → reportOf s false true false ≡ gives 0 s
@@ -206,7 +210,8 @@ pub record DemoRight (s : State) (image : List ℕ) (room : ℕ) : Type 0 where
   pub opcode-waits : byteOf s 136 image room ≡ gives 9 (withPartial demoHeld s)
   pub held-accepted : T (acceptedOf (withPartial demoHeld s))
   pub demo-byte : (b : ℕ) → b < 256 → byteOf (withPartial demoHeld s) b image room ≡ demoGives b s
-  -- so byte 2 of a run of 128s is the first that is read as an opcode, and the one before it gives 4, and 3 in Off
+  -- so byte 2 of a run of 128s is the first that is read as an opcode, and the one before it gives
+  -- 4, and 3 in Off
   pub named : untilOpcode demoHeld ≡ 1
   pub before-named : byteOf (withPartial demoHeld s) 128 image room .number ≡ cond (eqb (s .mode) 0) 3 4
 
@@ -214,7 +219,8 @@ pub record DemoRight (s : State) (image : List ℕ) (room : ℕ) : Type 0 where
 
 -- THEOREM: whether the base is moving into a cliff by Direct
 pub record BackingRight (s : State) : Type 0 where
-  -- Drive says the same: on a curve of radius r with velocity v the right wheel's speed is v (r + 129) / r and the left's v (r - 129) / r
+  -- Drive says the same: on a curve of radius r with velocity v the right wheel's speed is v (r +
+  -- 129) / r and the left's v (r - 129) / r
   pub agree : (v r a b : ℤ) → (r ≡ pos 0 → ⊥) → a *ℤ r ≡ v *ℤ (r +ℤ pos 129) → b *ℤ r ≡ v *ℤ (r -ℤ pos 129)
       → intoCliff (withWheels 2 a b s .motors) ≡ intoCliff (withWheels 1 v r s .motors)
   -- the two exchanged give the same

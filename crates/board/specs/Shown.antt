@@ -102,7 +102,8 @@ byRun more c =
     let bs = map (λ x. x .byte) (c .fed) in
     from (c .start) (step (run (bs ++ more) sampleImage (lent c)) (lastOf (c .fed)) (length bs) (c .answer) ∷ []) (c .end)
 
--- one by one, as one run, and, where the last byte ends its frame, as a run that leaves bytes unread
+-- one by one, as one run, and, where the last byte ends its frame, as a run that leaves
+-- bytes unread
 abbrev expanded : ByteCase → List Row
 expanded c = byBytes c ∷ byRun [] c ∷ cond (eqb (lastOf (c .fed)) 9) [] (byRun (128 ∷ 132 ∷ []) c ∷ [])
 

@@ -8,7 +8,8 @@ use command::Command;
 use command::Message;
 use state::State;
 
-// A driver's duty by its bit, of which place is the worth: 1, 2 or 4. One that 138 turns on has all of it.
+// A driver's duty by its bit, of which place is the worth: 1, 2 or 4. One that 138 turns on has all
+// of it.
 fn duty_of(bits: u8, place: u8) -> u8
     requires { ⌜ 0 < place ⌝ }
     ensures { λ r. ⌜ r ≡ dutyOf bits place ⌝ }

@@ -1,16 +1,23 @@
-// The board: five calls on a state record, which goes in by value and comes back by value with document 01's number.
+// The board: five calls on a state record, which goes in by value and comes back by value with
+// document 01's number.
 //
-//     byte             one byte of a frame; a command is judged when its last byte comes, by the mode then in force
-//     run              the bytes of a slice, until one gives a number other than 9 or the slice ends
-//     safety_report    wheel drop, cliff, powered charger: in Safe it may stop the motors and enter Passive
+//     byte             one byte of a frame; a command is judged when its last byte comes, by the
+//                      mode then in force
+//     run              the bytes of a slice, until one gives a number other than 9 or the slice
+//                      ends
+//     safety_report    wheel drop, cliff, powered charger: in Safe it may stop the motors and enter
+//                      Passive
 //     tick             the chunk of the stream list
 //     song_end         the song that plays has ended
 //
-//     8 bad record, 9 waiting, then 1 unknown, 2 not offered, 3 wrong mode, 4 data, 5 no song, 6 busy, 7 no room, and else 0 done
+//     8 bad record, 9 waiting, then 1 unknown, 2 not offered, 3 wrong mode, 4 data, 5 no song,
+//     6 busy, 7 no room, and else 0 done
 //
-// Proved (specs/Demand1.antt, Demand2.antt, Demand3.antt): for any record, bytes, report and buffer there is an answer, and a refusal changes nothing but the
-// frame it reads past and writes nothing; the tables and the shown cases of document 01 come out as written; and from any accepted record every list of
-// calls that reads at least 511 bytes, all 128, ends in Passive with nothing half read and all motors off, and 511 is the least.
+// Proved (specs/Demand1.antt, Demand2.antt, Demand3.antt): for any record, bytes, report and buffer
+// there is an answer, and a refusal changes nothing but the frame it reads past and writes nothing;
+// the tables and the shown cases of document 01 come out as written; and from any accepted record
+// every list of calls that reads at least 511 bytes, all 128, ends in Passive with nothing half
+// read and all motors off, and 511 is the least.
 mod effect;
 
 ghost use mathlib.Core.Path.{_≡_};
@@ -55,7 +62,8 @@ const BAD_RECORD: u8 = 8;
 
 const WAITING: u8 = 9;
 
-// What a call gives back: document 01's number, the length of what it wrote at its buffer's start, and the new record.
+// What a call gives back: document 01's number, the length of what it wrote at its buffer's start,
+// and the new record.
 #[repr(C)]
 pub struct Answer {
     pub number: u8,
@@ -141,7 +149,8 @@ fn done() -> Sent
     }
 }
 
-// An offered command in one of its modes, with legal data: numbers 5 to 7 in their order, and else its answer. What it does to the record is effect's.
+// An offered command in one of its modes, with legal data: numbers 5 to 7 in their order, and else
+// its answer. What it does to the record is effect's.
 fn carry_out(state: State, message: Message, image: &[u8; 40], buffer: &mut [u8]) -> Sent
     requires { ⌜ legalOf message ≡ true ⌝ }
     ensures { λ r. ⌜ (r ≡ sentAs (judgedBy (drop 4 (rules state message (now (image .entry)) (length (now (buffer .entry))))) state message (now (image .entry))))
@@ -171,7 +180,8 @@ fn carry_out(state: State, message: Message, image: &[u8; 40], buffer: &mut [u8]
     }
 }
 
-// What a command gets back when its last byte comes: the numbers 1 to 7 in their order, and else its answer.
+// What a command gets back when its last byte comes: the numbers 1 to 7 in their order, and else
+// its answer.
 fn judge(state: State, message: Message, image: &[u8; 40], buffer: &mut [u8]) -> Sent
     ensures { λ r. ⌜ (r ≡ sentAs (judgeOf state message (now (image .entry)) (length (now (buffer .entry)))))
         × (now (buffer .exit) ≡ written (judgeOf state message (now (image .entry)) (length (now (buffer .entry)))) (now (buffer .entry))) ⌝ }
@@ -202,8 +212,9 @@ fn ended(number: u8, state: State, read: usize) -> Ran
     }
 }
 
-// Bytes of a slice, fed until one gives a number other than 9 or the slice ends. The record is checked once, and a frame's data bytes are taken together: before
-// the run's end only the partial frame changes.
+// Bytes of a slice, fed until one gives a number other than 9 or the slice ends. The record is
+// checked once, and a frame's data bytes are taken together: before the run's end only the partial
+// frame changes.
 pub fn run(state: State, bytes: &[u8], image: &[u8; 40], buffer: &mut [u8]) -> Ran
     ensures { λ r. ⌜ (r ≡ ranAs (runOf state (now (bytes .entry)) (now (image .entry)) (length (now (buffer .entry)))))
         × (now (buffer .exit) ≡ written (runOf state (now (bytes .entry)) (now (image .entry)) (length (now (buffer .entry))) .outcome) (now (buffer .entry))) ⌝ }
@@ -262,8 +273,9 @@ fn backs_tightly(velocity: i16, radius: i16) -> bool
     velocity < 0 && (-165 < radius && radius < 165)
 }
 
-// Backwards round a stair head by Direct. Computed in 32 bits, which hold 165 times the sum or the difference of any two wheels. That the two differ is in the
-// comparison: 165 times no difference is above nothing.
+// Backwards round a stair head by Direct. Computed in 32 bits, which hold 165 times the sum or the
+// difference of any two wheels. That the two differ is in the comparison: 165 times no difference
+// is above nothing.
 fn backs_round(right: i16, left: i16) -> bool
     ensures { λ r. ⌜ r ≡ backsRound right left ⌝ }
 {
@@ -277,7 +289,8 @@ fn backs_round(right: i16, left: i16) -> bool
     129 * sum < 165 * difference
 }
 
-// Whether the base moves into a cliff; of a Drive the two numbers are velocity and radius, of a Direct right and left.
+// Whether the base moves into a cliff; of a Drive the two numbers are velocity and radius, of a
+// Direct right and left.
 fn into_cliff(motors: Motors) -> bool
     ensures { λ r. ⌜ r ≡ intoCliff motors ⌝ }
 {
@@ -297,7 +310,8 @@ fn stops_for(motors: Motors, drop: bool, cliff: bool, charger: bool) -> bool
     drop || (charger || (cliff && into_cliff(motors)))
 }
 
-// A safety report: wheel drop, cliff, powered charger. It stops the base in Safe alone, and never touches a half-read frame.
+// A safety report: wheel drop, cliff, powered charger. It stops the base in Safe alone, and never
+// touches a half-read frame.
 pub fn safety_report(state: State, drop: bool, cliff: bool, charger: bool) -> Answer
     ensures { λ r. ⌜ r ≡ answered (reportOf state drop cliff charger) ⌝ }
 {

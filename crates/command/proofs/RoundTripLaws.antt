@@ -1,4 +1,5 @@
--- The round trip: a legal message's frame says the message, and a frame of legal data is its message's.
+-- The round trip: a legal message's frame says the message, and a frame of legal data is
+-- its message's.
 -- Assumes nothing.
 use mathlib.Core.Path.{_≡_, refl, sym, ap, ap₂, subst, _∙_}
 use mathlib.Core.Bool.{Bool, true, false, not, _&&_, _||_}
@@ -187,7 +188,8 @@ least Counted = 2
 least Song = 3
 least Unknown = 1
 
--- a command as the bytes say it: its opcode is theirs, and so are its numbers; an offered one has as many as the frame table says at least
+-- a command as the bytes say it: its opcode is theirs, and so are its numbers; an offered one has
+-- as many as the frame table says at least
 pub record Spelled (bytes : List ℕ) (op : ℕ) (c : Command) : Type 0 where
   pub opcode : opcodeOf c ≡ op
   pub sent : allSent (formOf c .items) ≡ map (λ i. getD bytes i 0) (span 1 (length (allSent (formOf c .items))))

@@ -1,4 +1,5 @@
--- A test of a command that passes whatever the command's numbers are is computed once for each variant, and holds of every command.
+-- A test of a command that passes whatever the command's numbers are is computed once for each
+-- variant, and holds of every command.
 -- Assumes nothing.
 use mathlib.Core.Path.{_≡_, refl, subst}
 use mathlib.Core.Bool.{Bool}

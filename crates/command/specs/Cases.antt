@@ -1,5 +1,5 @@
--- Commands in numbers: what frames say, which modes they are for, and which data are legal. What the cases expect is written out, and cites no row,
--- no form and no range of the rules.
+-- Commands in numbers: what frames say, which modes they are for, and which data are legal. What
+-- the cases expect is written out, and cites no row, no form and no range of the rules.
 -- Assumes nothing.
 use mathlib.Core.Bool.{Bool, true, false, not, cond, _&&_, _||_, Bool·beq}
 use mathlib.Core.List.{List, [], _∷_, _++_, map}
@@ -71,8 +71,8 @@ frameCases =
     ∷ says (151 ∷ 255 ∷ []) (Infrared 255)
     ∷ []
 
--- bytes that are read, and whose message is not written. After a variant that is refused as such, and past a legal count, no place of the payload
--- is in use, whatever stands there.
+-- bytes that are read, and whose message is not written. After a variant that is refused as such,
+-- and past a legal count, no place of the payload is in use, whatever stands there.
 abbrev pub otherCases : List FrameCase
 otherCases =
     says (0 ∷ []) (Unknown 0)

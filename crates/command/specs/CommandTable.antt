@@ -1,4 +1,5 @@
--- The command table (document 01, 'Commands at their last byte'; document 02, One): which modes a command is for, and which data are legal.
+-- The command table (document 01, 'Commands at their last byte'; document 02, One): which modes a
+-- command is for, and which data are legal.
 -- Assumes nothing.
 use mathlib.Core.Bool.{Bool, true, false, cond, _&&_, _||_}
 use mathlib.Core.List.{List, [], _∷_, map}
@@ -164,6 +165,7 @@ legalOf m =
     let d = rowOf (m .command) .legal in
     allLegal (d .numbers) (map valueOf (formOf (m .command) .items)) && d .payload (payloadIn m)
 
--- what the writer gives back, by the room in the buffer: 4 for anything but an offered command with legal data, then 7, then the frame
+-- what the writer gives back, by the room in the buffer: 4 for anything but an offered command with
+-- legal data, then 7, then the frame
 abbrev pub writeReply : Message → ℕ → Reply
 writeReply m = replyOf (legalOf m) (encodeOf m)

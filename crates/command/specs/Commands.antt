@@ -50,7 +50,8 @@ pub record ModeColumn : Type 0 where
   pub no-other-mode : (c : Command) (mode : ℕ) → 3 < mode → allowedOf c mode ≡ false
   -- the opcode of an offered command decides, and not its data
   pub by-opcode : (c d : Command) (mode : ℕ) → opcodeOf c ≡ opcodeOf d → refusalOf c ≡ refusalOf d → allowedOf c mode ≡ allowedOf d mode
-  -- what the papers leave free: a variant that is refused as such is for no mode, whatever its opcode
+  -- what the papers leave free: a variant that is refused as such is for no mode, whatever
+  -- its opcode
   pub unknown-nowhere : (op mode : ℕ) → allowedOf (Unknown op) mode ≡ false
   pub not-offered-nowhere : (op mode : ℕ) → allowedOf (NotOffered op) mode ≡ false
 
@@ -66,7 +67,8 @@ isSpeed v = leZ (minus 500) v && leZ v (pos 500)
 abbrev pub isRadius : ℤ → Bool
 isRadius r = (leZ (minus 2000) r && (leZ r (pos 2000) && not (is r (pos 0)))) || (is r (pos 32767) || is r (minus 32768))
 
--- THEOREM: the column of legal data, for every value of the commands with a signed number or with more than one data byte
+-- THEOREM: the column of legal data, for every value of the commands with a signed number or with
+-- more than one data byte
 pub record DataColumn : Type 0 where
   -- -1 to 9
   pub demo-legal : (demo : ℤ) (p : List ℕ) → legalOf (message (Demo demo) p) ≡ (leZ (minus 1) demo && leZ demo (pos 9))
@@ -80,7 +82,8 @@ pub record DataColumn : Type 0 where
   -- 149's rule and 148's for the first N ids
   pub query-legal : (n : ℕ) (p : List ℕ) → legalOf (message (QueryList n) p) ≡ (leb n 16 && listableOf (take n p))
   pub stream-legal : (n : ℕ) (p : List ℕ) → legalOf (message (Stream n) p) ≡ (leb n 16 && streamableOf (take n p))
-  -- what the papers leave free: a variant that is refused as such has no legal data, whatever its opcode
+  -- what the papers leave free: a variant that is refused as such has no legal data, whatever
+  -- its opcode
   pub unknown-illegal : (op : ℕ) (p : List ℕ) → legalOf (message (Unknown op) p) ≡ false
   pub not-offered-illegal : (op : ℕ) (p : List ℕ) → legalOf (message (NotOffered op) p) ≡ false
   -- a place that the command does not use makes no difference
@@ -92,7 +95,8 @@ unusedZero m = allZero (drop (payloadSize (m .command)) (m .payload))
 
 -- what holds of the message of 35 bytes
 pub record DecodeFacts (bytes : List ℕ) : Type 0 where
-  -- sent again, it is as many of the bytes, legal or not: its opcode, its numbers and the payload in use are theirs
+  -- sent again, it is as many of the bytes, legal or not: its opcode, its numbers and the payload
+  -- in use are theirs
   pub sent-again : encodeOf (decodeOf bytes) ≡ take (length (encodeOf (decodeOf bytes))) bytes
   pub opcode-kept : opcodeOf (decodeOf bytes .command) ≡ getD bytes 0 0
   -- 1 unknown: opcode not in the frame table; 2 not offered: 152 to 158
@@ -118,13 +122,15 @@ pub record WritingRight : Type 0 where
   pub illegal-4 : (m : Message) (room : ℕ) → legalOf m ≡ false → writeReply m room ≡ refused 4
   pub unknown-4 : (op : ℕ) (p : List ℕ) (room : ℕ) → writeReply (message (Unknown op) p) room ≡ refused 4
   pub not-offered-4 : (op : ℕ) (p : List ℕ) (room : ℕ) → writeReply (message (NotOffered op) p) room ≡ refused 4
-  -- 4 exactly where the data aren't legal, 7 exactly where the frame is longer than the buffer, and else that frame
+  -- 4 exactly where the data aren't legal, 7 exactly where the frame is longer than the buffer, and
+  -- else that frame
   pub write-facts : (m : Message) (before after : List ℕ) (result : Sent) → Replied (writeReply m) before after result
       → ReplyFacts (legalOf m) (encodeOf m) before after result
   -- a place that the command does not use makes no difference
   pub unused-ignored : (c : Command) (p q : List ℕ) → take (payloadSize c) p ≡ take (payloadSize c) q
       → (room : ℕ) → writeReply (message c p) room ≡ writeReply (message c q) room
-  -- a frame begins with its opcode, so that it has a last byte, and has at most 35 bytes, which is reached
+  -- a frame begins with its opcode, so that it has a last byte, and has at most 35 bytes, which
+  -- is reached
   pub opcode-first : (m : Message) → getD (encodeOf m) 0 0 ≡ opcodeOf (m .command)
   pub some-bytes : (m : Message) → 0 < length (encodeOf m)
   pub longest : (m : Message) → length (encodeOf m) ≤ 35
@@ -136,8 +142,8 @@ pub record WritingRight : Type 0 where
 abbrev pub messageAt : List ℕ → ℕ → Message
 messageAt bs b = decodeOf (pushOf (afterOf emptyPartial bs) b .partial .bytes)
 
--- a message whose command is offered and whose data are legal, with 0 in the places that are not in use. True of every value of the type:
--- its payload is a value of [u8; 32].
+-- a message whose command is offered and whose data are legal, with 0 in the places that are not in
+-- use. True of every value of the type: its payload is a value of [u8; 32].
 pub record Sendable (m : Message) : Type 0 where
   pub legal : legalOf m ≡ true
   pub array : T (byteArray 32 (m .payload))
@@ -157,6 +163,7 @@ pub record RoundTrip : Type 0 where
       → (bs : List ℕ) (b : ℕ) → encodeOf m ≡ snoc bs b → messageAt bs b ≡ readAs m
   -- itself, where these places are 0 already
   pub read-same : (m : Message) → Sendable m → readAs m ≡ m
-  -- bytes that are complete at the last one and not before, with legal data, are what the writer writes of their message, given room
+  -- bytes that are complete at the last one and not before, with legal data, are what the writer
+  -- writes of their message, given room
   pub read-written : (bs : List ℕ) (b : ℕ) → T (allBytes (snoc bs b)) → CompleteAtLast bs b → legalOf (messageAt bs b) ≡ true
       → (room : ℕ) → length (snoc bs b) ≤ room → writeReply (messageAt bs b) room ≡ wrote (snoc bs b)

@@ -1,4 +1,5 @@
--- A command as bytes: how it is sent, and what a whole frame says (document 01, 'Commands at their last byte'; document 02, One).
+-- A command as bytes: how it is sent, and what a whole frame says (document 01, 'Commands at their
+-- last byte'; document 02, One).
 -- Assumes nothing.
 use mathlib.Core.Bool.{cond}
 use mathlib.Core.List.{List, [], _∷_, _++_}
@@ -38,8 +39,9 @@ abbrev pub allSent : List Item → List ℕ
 allSent [] = []
 allSent (i ∷ is) = itemBytes i ++ allSent is
 
--- a command's opcode, its numbers in the order in which they are sent, how many bytes of the payload follow them, and the number by which
--- a variant is refused as such, which is 0 for an offered command
+-- a command's opcode, its numbers in the order in which they are sent, how many bytes of the
+-- payload follow them, and the number by which a variant is refused as such, which is 0 for an
+-- offered command
 pub record Form : Type 0 where
   pub opcode : ℕ
   pub items : List Item
@@ -90,7 +92,8 @@ formOf (NotOffered op) = refusedAs 2 op
 abbrev pub opcodeOf : Command → ℕ
 opcodeOf c = formOf c .opcode
 
--- document 01's number for a variant that is refused as such: 1 unknown, 2 not offered; 0 for an offered command
+-- document 01's number for a variant that is refused as such: 1 unknown, 2 not offered; 0 for an
+-- offered command
 abbrev pub refusalOf : Command → ℕ
 refusalOf c = formOf c .refusal
 
@@ -118,7 +121,8 @@ encodeOf m = headOf (m .command) ++ payloadIn m
 
 -- ---- reading
 
--- what a frame of an opcode says, by its first four data bytes. It is written out, and not derived from the forms, so that the round trip compares the two.
+-- what a frame of an opcode says, by its first four data bytes. It is written out, and not derived
+-- from the forms, so that the round trip compares the two.
 pub record DecodeRow : Type 0 where
   pub opcode : ℕ
   pub says : ℕ → ℕ → ℕ → ℕ → Command
@@ -165,8 +169,9 @@ commandFor (r ∷ rs) op a b c d = cond (eqb op (r .opcode)) (r .says a b c d) (
 unfoldable pub commandOf : List ℕ → Command
 commandOf bytes = commandFor decodeTable (getD bytes 0 0) (getD bytes 1 0) (getD bytes 2 0) (getD bytes 3 0) (getD bytes 4 0)
 
--- the message of a frame: its command, and the payload that follows the command's bytes, with 0 in the places that are not in use. Past a legal
--- count, where the papers leave it free, no place is in use.
+-- the message of a frame: its command, and the payload that follows the command's bytes, with 0 in
+-- the places that are not in use. Past a legal count, where the papers leave it free, no place is
+-- in use.
 unfoldable pub decodeOf : List ℕ → Message
 decodeOf bytes =
     let c = commandOf bytes in

@@ -1,4 +1,5 @@
-// What a whole frame says, and the host-side writer of commands (document 01, 'Commands at their last byte'; document 02, One).
+// What a whole frame says, and the host-side writer of commands (document 01, 'Commands at their
+// last byte'; document 02, One).
 //
 //     opcode            modes       legal data
 //     128 Start         all four    none
@@ -8,7 +9,8 @@
 //     133               S F         none
 //     136 Demo          P S F       -1 to 9, a signed byte
 //     134, 135, 143     P S F       none
-//     137 Drive         S F         velocity -500 to 500; radius -2000 to 2000 but not 0, or 32767, or -32768
+//     137 Drive         S F         velocity -500 to 500; radius -2000 to 2000 but not 0,
+//                                   or 32767, or -32768
 //     145 Direct        S F         right, then left, each -500 to 500
 //     138 Drivers       S F         0 to 7
 //     144 Duties        S F         0 to 128 each, for driver 2, 1, 0
@@ -36,8 +38,8 @@ ghost use Rattle.command.specs.CommandTable.{isIn, _to_, isLegal, speed,
 ghost use Rattle.command.specs.Fields.{openingOf, messageOf};
 use wire::Sent;
 
-// A command, with its numbers as a host thinks of them, in the order in which they are sent. Notes and ids, which an enum can't hold, stand
-// beside it in a message.
+// A command, with its numbers as a host thinks of them, in the order in which they are sent. Notes
+// and ids, which an enum can't hold, stand beside it in a message.
 pub enum Command {
     // 128
     Start,
@@ -111,7 +113,8 @@ pub struct Fields {
     pub payload: [u8; 32],
 }
 
-// The bytes of a frame before its payload: the opcode and the command's numbers, in the first places.
+// The bytes of a frame before its payload: the opcode and the command's numbers, in the
+// first places.
 struct Head {
     bytes: [u8; 5],
     size: usize,
@@ -139,7 +142,8 @@ fn payload_size(command: Command) -> usize
     }
 }
 
-// The bytes before the payload, of a command of no numbers, of one to three bytes, and of two sixteen-bit numbers.
+// The bytes before the payload, of a command of no numbers, of one to three bytes, and of two
+// sixteen-bit numbers.
 fn head0(op: u8) -> Head
     ensures { λ r. ⌜ r ≡ headed (op ∷ []) ⌝ }
 {
@@ -261,7 +265,8 @@ fn command_of(bytes: [u8; 35]) -> Command
     }
 }
 
-// The message of a complete frame. What it gives past a legal count is free in the papers: it is a payload of which no place is in use, all 0.
+// The message of a complete frame. What it gives past a legal count is free in the papers: it is a
+// payload of which no place is in use, all 0.
 pub fn decode(bytes: [u8; 35]) -> Message
     ensures { λ r. ⌜ r ≡ decodeOf bytes ⌝ }
 {
@@ -302,7 +307,8 @@ pub fn message_of(fields: Fields) -> Message
     Message { command, payload }
 }
 
-// The last legal code for the serial speed, digital outputs, song number and duty. A state record keeps such numbers too, and its check uses these names.
+// The last legal code for the serial speed, digital outputs, song number and duty. A state record
+// keeps such numbers too, and its check uses these names.
 pub const LAST_BAUD: u8 = 11;
 
 pub const LAST_OUTPUTS: u8 = 7;
@@ -333,7 +339,8 @@ pub fn is_radius(v: i16) -> bool
         || (is_in(1, 2000, v) || (is_in(32767, 32767, v) || is_in(-32768, -32768, v)))
 }
 
-// Whether the data are legal. What it gives for a variant that is refused as such is free in the papers: none has legal data.
+// Whether the data are legal. What it gives for a variant that is refused as such is free in the
+// papers: none has legal data.
 pub fn legal(message: Message) -> bool
     ensures { λ r. ⌜ r ≡ legalOf message ⌝ }
 {
@@ -382,7 +389,8 @@ fn from_mode(first: u8, mode: u8) -> bool
     first <= mode && mode <= FULL
 }
 
-// Whether a command is for this mode. What it gives for a variant that is refused as such is free in the papers: it is for none.
+// Whether a command is for this mode. What it gives for a variant that is refused as such is free
+// in the papers: it is for none.
 pub fn allowed(command: Command, mode: u8) -> bool
     ensures { λ r. ⌜ r ≡ allowedOf command mode ⌝ }
 {
@@ -403,8 +411,8 @@ pub fn allowed(command: Command, mode: u8) -> bool
     }
 }
 
-// The host-side writer: 4 for anything that isn't an offered command with legal data, then 7 for a frame longer than the buffer, then the frame.
-// It asks no mode.
+// The host-side writer: 4 for anything that isn't an offered command with legal data, then 7 for a
+// frame longer than the buffer, then the frame. It asks no mode.
 pub fn write(message: Message, buffer: &mut [u8]) -> Sent
     ensures { λ r. ⌜ Replied (writeReply message) (now (buffer .entry)) (now (buffer .exit)) r ⌝ }
 {

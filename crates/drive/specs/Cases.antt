@@ -1,4 +1,5 @@
--- Speeds in numbers: worked cases of wheel orders. What they expect is written out, and cites no rule.
+-- Speeds in numbers: worked cases of wheel orders. What they expect is written out, and cites
+-- no rule.
 -- Assumes nothing.
 use mathlib.Core.Bool.{Bool, true, false, Bool·beq, _&&_}
 use mathlib.Core.List.{List, [], _∷_}
@@ -55,7 +56,8 @@ speedCases =
     ∷ caps (pos 462) (pos 1548) (pos 500) (pos 424)
     ∷ caps (minus 462) (pos 1548) (minus 500) (minus 424)
     ∷ caps (pos 462) (minus 1548) (pos 424) (pos 500)
-    -- a wheel that stands, the plain radii next to the special ones and the last ones, and the largest speeds before the cap
+    -- a wheel that stands, the plain radii next to the special ones and the last ones, and the
+    -- largest speeds before the cap
     ∷ drives (pos 100) (pos 129) (pos 200) (pos 0)
     ∷ drives (pos 100) (minus 129) (pos 0) (pos 200)
     ∷ drives (pos 0) (pos 2) (pos 0) (pos 0)

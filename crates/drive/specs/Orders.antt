@@ -26,7 +26,8 @@ rightNumerator v r = v *ℤ (r +ℤ pos 129)
 abbrev pub leftNumerator : ℤ → ℤ → ℤ
 leftNumerator v r = v *ℤ (r -ℤ pos 129)
 
--- Drive: radius 1 turns counterclockwise, -1 clockwise, 32767 and -32768 go straight; any other is plain
+-- Drive: radius 1 turns counterclockwise, -1 clockwise, 32767 and -32768 go straight; any other
+-- is plain
 unfoldable pub curveOf : ℤ → ℤ → Wheels
 curveOf v r =
     cond (sameNumber r (pos 1)) (wheels v (negℤ v))
@@ -62,7 +63,8 @@ given w = speeds (capOf (w .right)) (capOf (w .left)) (beyond (w .right) || beyo
 abbrev pub refused : Speeds
 refused = record { number = 4; right = pos 0; left = pos 0; capped = false }
 
--- 'a value that 01 calls illegal': by the rule for the state record's wheel order, of which the duties are no part
+-- 'a value that 01 calls illegal': by the rule for the state record's wheel order, of which the
+-- duties are no part
 abbrev pub orderOf : ℕ → ℤ → ℤ → Motors
 orderOf kind first second = record { order = kind; first = first; second = second; duties = motorsStopped .duties }
 

@@ -41,7 +41,8 @@ pub record CurvesRight : Type 0 where
   pub radii : (r : ℤ) → isRadius r ≡ (isPlain r || isSpecial r)
   -- on a plain one each wheel has the nearest whole number to its exact speed, at every velocity
   pub plain : (v r : ℤ) → isPlain r ≡ true → BothNearest v r (curveOf v r)
-  -- 'Radius 1 turns counterclockwise (right v, left -v), -1 clockwise, 32767 and -32768 go straight'
+  -- 'Radius 1 turns counterclockwise (right v, left -v), -1 clockwise, 32767 and -32768
+  -- go straight'
   pub counterclockwise : (v : ℤ) → curveOf v (pos 1) ≡ wheels v (negℤ v)
   pub clockwise : (v : ℤ) → curveOf v (minus 1) ≡ wheels (negℤ v) v
   pub straight : (v : ℤ) → curveOf v (pos 32767) ≡ wheels v v
@@ -83,7 +84,8 @@ pub record OrdersRight : Type 0 where
 abbrev pub ordered : Motors → Speeds
 ordered m = speedsOf (m .order) (m .first) (m .second)
 
--- THEOREM: a record that the board takes is never refused here, and where it has its motors off the wheels stand
+-- THEOREM: a record that the board takes is never refused here, and where it has its motors off the
+-- wheels stand
 pub record RecordsRight : Type 0 where
   pub accepted : (s : State) → T (acceptedOf s) → ordered (s .motors) .number ≡ 0
   pub off : (m : Motors) → motorsOff m ≡ true → ordered m ≡ speeds (pos 0) (pos 0) false

@@ -1,7 +1,8 @@
 // From a wheel order to a speed for each wheel (document 02, Four): what the motor stage wants.
 //
 //     no order                  0 and 0
-//     Drive, radius r           right v(r + 129)/r, left v(r - 129)/r, each the nearest whole number, halves away from zero
+//     Drive, radius r           right v(r + 129)/r, left v(r - 129)/r, each the nearest whole
+//                               number, halves away from zero
 //     Drive, radius 1           counterclockwise: right v, left -v
 //     Drive, radius -1          clockwise: right -v, left v
 //     Drive, 32767, -32768      straight: both v
@@ -9,10 +10,11 @@
 //
 // then each is capped to -500 and 500. An order that document 01 calls illegal is refused with 4.
 //
-// Proved (specs/Stage.antt): each speed before the cap is the nearest whole number, the only one but at a half, and there the one further from zero; the cap
-// and its flag in every case; the speeds are odd in the velocity; no wheel is told more than 500; an accepted record's order is never refused, and in Off and
-// Passive the wheels stand. Nothing overflows for any order. For C and Rust it is `firmware`'s
-// `wheel_speeds`.
+// Proved (specs/Stage.antt): each speed before the cap is the nearest whole number, the only one
+// but at a half, and there the one further from zero; the cap and its flag in every case; the
+// speeds are odd in the velocity; no wheel is told more than 500; an accepted record's order is
+// never refused, and in Off and Passive the wheels stand. Nothing overflows for any order. For C
+// and Rust it is `firmware`'s `wheel_speeds`.
 ghost use mathlib.Core.Path.{_≡_};
 ghost use Prim.Native.Nat.{_<_, _≤_};
 ghost use lib.IntN.{natAbs, _+ℤ_, _*ℤ_};
@@ -44,8 +46,9 @@ struct Wheels {
     left: i32,
 }
 
-// n / d to the nearest whole number, halves away from zero: the quotient, or the next where twice the rest is no less than the divisor. The greatest numerator
-// is one less than fits, so that there is room for the next.
+// n / d to the nearest whole number, halves away from zero: the quotient, or the next where twice
+// the rest is no less than the divisor. The greatest numerator is one less than fits, so that there
+// is room for the next.
 fn nearest(n: i32, d: i32) -> i32
     requires { ⌜ 0 < natAbs d ⌝ }
     requires { ⌜ natAbs n < 2147483647 ⌝ }
@@ -62,7 +65,8 @@ fn nearest(n: i32, d: i32) -> i32
     }
 }
 
-// A wheel's speed on a plain radius, the wheel standing so far to the right of the middle. Of any velocity and radius the numerator is within 32 bits.
+// A wheel's speed on a plain radius, the wheel standing so far to the right of the middle. Of any
+// velocity and radius the numerator is within 32 bits.
 fn on_curve(velocity: i16, radius: i16, offset: i32) -> i32
     requires { ⌜ 0 < natAbs radius ⌝ }
     requires { ⌜ natAbs offset ≤ 129 ⌝ }

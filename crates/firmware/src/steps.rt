@@ -1,5 +1,5 @@
-// What stands between a lent call and the crates below, by value: flags as numbers, and a message in
-// flat fields.
+// What stands between a lent call and the crates below, by value: flags as numbers, and a message
+// in flat fields.
 ghost use mathlib.Core.Path.{_≡_};
 ghost use lib.ListN.{length};
 ghost use Rattle.wire.specs.Replies.{sentOf, leftIn};

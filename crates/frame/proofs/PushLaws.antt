@@ -23,7 +23,8 @@ use Rattle.frame.specs.declared.Length.the-variants.{Fixed, Counted, Son
 use Rattle.frame.specs.declared.Partial.{Partial}
 use Rattle.frame.proofs.FrameTableLaws.{code, fixed-small}
 
--- ---- header and body: the header is 1 to 3 bytes, the body at most 510, and a body that is stored has room
+-- ---- header and body: the header is 1 to 3 bytes, the body at most 510, and a body that is stored
+-- has room
 
 pub header-pos : (l : Length) → 0 < headerSize l
 header-pos (Fixed n) = omega arith
@@ -262,7 +263,8 @@ last-ends p (b ∷ (c ∷ bs)) h e =
 
 -- ---- a whole frame
 
--- p has begun a frame that ds completes: none of them is read as an opcode, and nothing is stored after them
+-- p has begun a frame that ds completes: none of them is read as an opcode, and nothing is stored
+-- after them
 pub record Finishes (p : Partial) (ds : List ℕ) : Type 0 where
   pub not-opcode : opcodes p ds ≡ replicate (length ds) false
   pub empty-after : afterOf p ds ≡ emptyPartial

@@ -99,7 +99,8 @@ pub empty-reachable : T (reachableOf emptyPartial)
 unfolding reachableOf dataLength
 empty-reachable = tt
 
--- where a reachable frame stands: nothing is read; past the opcode, and the length is not known; in the body
+-- where a reachable frame stands: nothing is read; past the opcode, and the length is not known; in
+-- the body
 pub data Position (p : Partial) : Type 0 where
   at-start : p ≡ emptyPartial → Position p
   past-opcode : p .remaining ≡ 0 → 0 < p .count → p .count < headerOf (p .bytes) → Position p

@@ -1,5 +1,5 @@
--- Every frame that `reachableOf` passes is left by some list of bytes: by those that are stored, and, where the body is skipped, by as many
--- zeros as bytes of it came.
+-- Every frame that `reachableOf` passes is left by some list of bytes: by those that are stored,
+-- and, where the body is skipped, by as many zeros as bytes of it came.
 -- Assumes nothing.
 use mathlib.Core.Path.{_≡_, refl, sym, ap, ap₂, _∙_}
 use mathlib.Core.Bool.{true, false}

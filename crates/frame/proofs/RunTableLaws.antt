@@ -49,7 +49,8 @@ body128 l = bodySizeAs l (0 ∷ 128 ∷ 128 ∷ [])
 abbrev begunWith : ℕ → ℕ → Partial
 begunWith op n = record { bytes = op ∷ []; count = n; remaining = 0 }
 
--- the rows for a frame in its header, computed over all opcodes: the rest of the header comes, and the body that a 128 announces
+-- the rows for a frame in its header, computed over all opcodes: the rest of the header comes, and
+-- the body that a 128 announces
 abbrev headerRow : ℕ → ℕ → Bool
 headerRow n op =
     let l = dataLength op in not (ltb n (headerSize l)) || eqb (untilOpcode (begunWith op n)) (headerSize l - n + body128 l)
@@ -95,7 +96,8 @@ body-as-128 Song bs n h a b =
     rw e (simp (getD-set-same bs 2 128 0 (omega arith)))
 body-as-128 Unknown bs n h a b = absurd (omega arith)
 
--- what a 128 does: it completes a frame where at most one byte is waited for, and one less is waited for after it
+-- what a 128 does: it completes a frame where at most one byte is waited for, and one less is
+-- waited for after it
 abbrev Steps : Partial → Type 0
 Steps p = (pushOf p 128 .complete ≡ leb (untilOpcode p) 1) × (untilOpcode (nextOf p 128) ≡ untilOpcode p - 1)
 

@@ -1,5 +1,5 @@
--- What is kept of a frame is stored as it was sent: `partialOf` of a frame's first bytes is kept up by each byte more. So a frame is
--- complete at its last byte, and not before.
+-- What is kept of a frame is stored as it was sent: `partialOf` of a frame's first bytes is kept up
+-- by each byte more. So a frame is complete at its last byte, and not before.
 -- Assumes nothing.
 use mathlib.Core.Path.{_≡_, refl, sym, subst, ap, ap₂, _∙_}
 use mathlib.Core.Bool.{Bool, true, false}
@@ -216,7 +216,8 @@ right-any : (bs : List ℕ) → T (allBytes bs) → length bs < frameSize bs →
 right-any [] t lacks b = ap (λ (p : Partial). pushOf p b) from-empty ∙ right-in-header [] b (header-pos (lengthOf (b ∷ [])))
 right-any (a ∷ bs) t lacks b = right-after (a ∷ bs) t (omega arith) lacks b
 
--- one byte more is at most the last one: the header is within the frame, and after it the size stays
+-- one byte more is at most the last one: the header is within the frame, and after it the
+-- size stays
 grows-le : (bs : List ℕ) (b : ℕ) → length bs < frameSize bs → length (snoc bs b) ≤ frameSize (snoc bs b)
 grows-le [] b lacks = omega arith
 grows-le (a ∷ bs) b lacks =
@@ -265,7 +266,8 @@ sized-marks (d ∷ ds) bs b t u lacks e =
     ∙ ap (λ (l : List Bool). false ∷ l)
     (sized-marks ds (snoc bs d) b (snoc-bytes bs ds d t u) (and-yes (isByte d) (allBytes ds) u .1) more (rw same e))
 
--- and back: while the marks are false the longer list lacks data, and the one mark that is true gives the size
+-- and back: while the marks are false the longer list lacks data, and the one mark that is true
+-- gives the size
 marks-sized : (ds bs : List ℕ) (b : ℕ) → T (allBytes bs) → T (allBytes ds) → length bs < frameSize bs
     → completed (partialOf bs) (snoc ds b) ≡ replicate (length ds) false ++ (true ∷ []) → length (bs ++ snoc ds b) ≡ frameSize (bs ++ snoc ds b)
 marks-sized [] bs b t u lacks e = eqb-true _ _ (sym (mark bs b t lacks) ∙ cc e)

@@ -49,7 +49,8 @@ abbrev pub Waits : Partial → List ℕ → Partial → Type 0
 Waits p [] q = p ≡ q
 Waits p (b ∷ bs) q = (pushOf p b .complete ≡ false) × Waits (pushOf p b .partial) bs q
 
--- what is absorbed of a slice: bytes that wait, and a last one, which leaves the frame, complete or not
+-- what is absorbed of a slice: bytes that wait, and a last one, which leaves the frame, complete
+-- or not
 pub record Steps (p : Partial) (bs : List ℕ) (r : Absorbed) : Type 0 where
   pub front : List ℕ
   pub last : ℕ

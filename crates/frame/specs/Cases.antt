@@ -10,7 +10,8 @@ use Rattle.wire.specs.Lists.{all, among, snoc, sameList}
 use Rattle.frame.specs.Push.{pushOf, stored, emptyPartial, afterOf}
 use Rattle.frame.specs.declared.Partial.{Partial}
 
--- after these bytes the last one leaves these stored, so many remaining, and the frame complete or not
+-- after these bytes the last one leaves these stored, so many remaining, and the frame complete
+-- or not
 pub record FrameCase : Type 0 where
   pub before : List ℕ
   pub last : ℕ

@@ -43,7 +43,8 @@ pub record EveryPush : Type 0 where
   -- of a complete frame nothing remains
   pub complete-done : (p : Partial) (b : ℕ) → pushOf p b .complete ≡ true → pushOf p b .partial .remaining ≡ 0
 
--- what is kept of a frame's bytes: all, or, past its legal count and in a 152, those up to the count byte
+-- what is kept of a frame's bytes: all, or, past its legal count and in a 152, those up to the
+-- count byte
 abbrev pub keptOf : List ℕ → List ℕ
 keptOf bs = cond (storesBody bs) bs (take (headerOf bs) bs)
 
@@ -67,7 +68,8 @@ pub record StoredAsSent : Type 0 where
 abbrev pub CompleteAtLast : List ℕ → ℕ → Type 0
 CompleteAtLast bs b = completed emptyPartial (snoc bs b) ≡ replicate (length bs) false ++ (true ∷ [])
 
--- THEOREM: a list of bytes completes a frame at its last byte, and not before, exactly when it is as long as the frame that it begins
+-- THEOREM: a list of bytes completes a frame at its last byte, and not before, exactly when it is
+-- as long as the frame that it begins
 pub record CompleteExactly : Type 0 where
   pub sized-completes : (bs : List ℕ) (b : ℕ) → T (allBytes bs) → length (snoc bs b) ≡ frameSize (snoc bs b) → CompleteAtLast bs b
   pub completes-sized : (bs : List ℕ) (b : ℕ) → T (allBytes bs) → CompleteAtLast bs b → length (snoc bs b) ≡ frameSize (snoc bs b)
@@ -97,7 +99,8 @@ pub record RunTableRight : Type 0 where
   pub one-less : (p : Partial) → T (reachableOf p) → untilOpcode (nextOf p 128) ≡ untilOpcode p - 1
   -- and completes the frame exactly where that was at most 1
   pub completes : (p : Partial) → T (reachableOf p) → pushOf p 128 .complete ≡ leb (untilOpcode p) 1
-  -- of n bytes 128, byte k, counted from 0, is read as an opcode exactly when `untilOpcode` is at most k
+  -- of n bytes 128, byte k, counted from 0, is read as an opcode exactly when `untilOpcode` is at
+  -- most k
   pub opcode-at : (n k : ℕ) (p : Partial) → T (reachableOf p) → k < n → getD (opcodes p (replicate n 128)) k false ≡ leb (untilOpcode p) k
   -- at most 510 bytes remain, so that 511 bytes are enough
   pub remaining-le : (p : Partial) → T (reachableOf p) → p .remaining ≤ 510
@@ -107,7 +110,8 @@ pub record RunTableRight : Type 0 where
 abbrev pub longSong : ℕ → ℕ → Partial
 longSong s k = stored (140 ∷ s ∷ 255 ∷ []) k
 
--- THEOREM: the bytes that remain are all needed, whatever their values, of every partial frame, reachable or not
+-- THEOREM: the bytes that remain are all needed, whatever their values, of every partial frame,
+-- reachable or not
 pub record RemainingNeeded : Type 0 where
   -- none of them is read as an opcode
   pub not-opcodes : (p : Partial) (bs : List ℕ) → 0 < p .remaining → length bs ≤ p .remaining → opcodes p bs ≡ replicate (length bs) false
@@ -115,7 +119,8 @@ pub record RemainingNeeded : Type 0 where
   pub still-remain : (p : Partial) (bs : List ℕ) → length bs < p .remaining → afterOf p bs .remaining ≡ p .remaining - length bs
   -- the last of them ends the frame
   pub last-ends : (p : Partial) (bs : List ℕ) → 0 < p .remaining → length bs ≡ p .remaining → afterOf p bs ≡ emptyPartial
-  -- so from 140 s 255 with k bytes remaining k bytes come before the next opcode; each such frame is reachable
+  -- so from 140 s 255 with k bytes remaining k bytes come before the next opcode; each such frame
+  -- is reachable
   pub song-needs : (s k : ℕ) (bs : List ℕ) → 0 < k → beginsFrame (afterOf (longSong s k) bs) ≡ true → k ≤ length bs
   pub song-reachable : (s k : ℕ) → s < 256 → 0 < k → k ≤ 510 → T (reachableOf (longSong s k))
   -- and no other frame has 510 bytes remaining

@@ -1,4 +1,5 @@
--- The frame table (document 01, 'Cutting bytes into frames'; document 02, One): how many data bytes an opcode has.
+-- The frame table (document 01, 'Cutting bytes into frames'; document 02, One): how many data bytes
+-- an opcode has.
 -- Assumes nothing.
 use mathlib.Core.Bool.{Bool, true, false, cond}
 use mathlib.Core.List.{List, [], _∷_, _++_}
@@ -16,7 +17,8 @@ pub record Row : Type 0 where
 abbrev row : List ℕ → Length → Row
 row ops n = record { opcodes = ops; length = n }
 
--- document 01's rows, in its order; 136 stands where request One puts it. The last row, 'all others', is the end of the list.
+-- document 01's rows, in its order; 136 stands where request One puts it. The last row, 'all
+-- others', is the end of the list.
 abbrev pub frameTable : List Row
 frameTable =
     row (128 ∷ (fromTo 130 135 ++ (143 ∷ 153 ∷ 154 ∷ []))) (Fixed 0)
@@ -37,14 +39,16 @@ look (r ∷ rs) op = cond (among (r .opcodes) op) (r .length) (look rs op)
 unfoldable pub dataLength : ℕ → Length
 dataLength op = look frameTable op
 
--- the table's second column: how many data bytes a frame has, by its bytes. N is the first data byte, L the second.
+-- the table's second column: how many data bytes a frame has, by its bytes. N is the first data
+-- byte, L the second.
 abbrev pub dataBytes : Length → List ℕ → ℕ
 dataBytes (Fixed n) bytes = n
 dataBytes Counted bytes = 1 + getD bytes 1 0
 dataBytes Song bytes = 2 + 2 * getD bytes 2 0
 dataBytes Unknown bytes = 0
 
--- the bytes of a frame up to the one that gives its length: the opcode, and a count byte with what stands before it
+-- the bytes of a frame up to the one that gives its length: the opcode, and a count byte with what
+-- stands before it
 abbrev pub headerSize : Length → ℕ
 headerSize (Fixed n) = 1
 headerSize Counted = 2

@@ -1,5 +1,5 @@
--- One byte, pushed onto the partial frame (document 01: the held frame). A frame is its header, the bytes up to the one that gives
--- its length, and its body, the data bytes after that.
+-- One byte, pushed onto the partial frame (document 01: the held frame). A frame is its header, the
+-- bytes up to the one that gives its length, and its body, the data bytes after that.
 -- Assumes nothing.
 use mathlib.Core.Bool.{Bool, true, false, not, cond, _&&_}
 use mathlib.Core.List.{List, [], _∷_}
@@ -14,7 +14,8 @@ use Rattle.frame.specs.declared.Partial.{Partial}
 
 -- ---- the parts of a frame, by its first bytes
 
--- the frame's size, once the header is there: the opcode, and as many data bytes as the frame table says
+-- the frame's size, once the header is there: the opcode, and as many data bytes as the frame
+-- table says
 abbrev pub frameSizeAs : Length → List ℕ → ℕ
 frameSizeAs l bytes = 1 + dataBytes l bytes
 
@@ -37,7 +38,8 @@ storesBodyAs Counted bytes = not (isScript bytes) && legalCount (getD bytes 1 0)
 storesBodyAs Song bytes = legalCount (getD bytes 2 0)
 storesBodyAs Unknown bytes = true
 
--- the frame that the bytes begin: its length, its header, its size, its body, and whether that is stored
+-- the frame that the bytes begin: its length, its header, its size, its body, and whether that
+-- is stored
 abbrev pub lengthOf : List ℕ → Length
 lengthOf bytes = dataLength (getD bytes 0 0)
 
@@ -64,7 +66,8 @@ pub record Pushed : Type 0 where
 abbrev pub appendOf : Partial → ℕ → Partial
 appendOf p b = cond (leb 35 (p .count)) p (record { bytes = set (p .bytes) (p .count) b; count = p .count + 1; remaining = p .remaining })
 
--- a frame whose length was not known: it waits on, or its header is complete now, and so is the frame where its body is empty
+-- a frame whose length was not known: it waits on, or its header is complete now, and so is the
+-- frame where its body is empty
 abbrev pub measureOf : Partial → Pushed
 measureOf p =
     cond (ltb (p .count) (headerOf (p .bytes)))
@@ -77,8 +80,9 @@ bodyByteOf p b =
     let q = cond (storesBody (p .bytes)) (appendOf p b) p in
     record { partial = record { bytes = q .bytes; count = q .count; remaining = p .remaining - 1 }; complete = eqb (p .remaining) 1 }
 
--- while nothing is known to remain the byte is an opcode or another byte of the header; else it is one of the body. On a frame that is not
--- reachable, of which the papers say nothing, the two numbers and the first bytes decide in the same way.
+-- while nothing is known to remain the byte is an opcode or another byte of the header; else it is
+-- one of the body. On a frame that is not reachable, of which the papers say nothing, the two
+-- numbers and the first bytes decide in the same way.
 abbrev pub pushOf : Partial → ℕ → Pushed
 pushOf p b = cond (eqb (p .remaining) 0) (measureOf (appendOf p b)) (bodyByteOf p b)
 

@@ -1,4 +1,5 @@
--- The run table (document 01, 'The run of 128s'): which byte of a run of 128s is first read as an opcode.
+-- The run table (document 01, 'The run of 128s'): which byte of a run of 128s is first read as
+-- an opcode.
 -- Assumes nothing.
 use mathlib.Core.Bool.{Bool, not, cond, _&&_}
 use mathlib.Core.List.{List, [], _∷_, map}
@@ -52,13 +53,15 @@ untilOpcode p = named runTable p - 1
 
 -- ---- the table against the cut: each row is run
 
--- lists of bytes after which a row speaks of what is held: each opcode of the row; for a known length 1 (a 129 and a 136), 4, 255 and 510 bytes remaining
+-- lists of bytes after which a row speaks of what is held: each opcode of the row; for a known
+-- length 1 (a 129 and a 136), 4, 255 and 510 bytes remaining
 abbrev pub samples : Progress → List (List ℕ)
 samples nothing = [] ∷ []
 samples known = (129 ∷ []) ∷ (136 ∷ []) ∷ (137 ∷ []) ∷ (152 ∷ 255 ∷ []) ∷ (140 ∷ 0 ∷ 255 ∷ []) ∷ []
 samples (begun ops n) = map (λ op. op ∷ replicate (n - 1) 0) ops
 
--- after these bytes the row speaks of what is held, and a run of 128s has its first opcode where the row says
+-- after these bytes the row speaks of what is held, and a run of 128s has its first opcode where
+-- the row says
 abbrev pub runs : RunRow → List ℕ → Bool
 runs r bs =
     let p = afterOf emptyPartial bs in

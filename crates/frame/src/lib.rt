@@ -1,4 +1,5 @@
-// Cuts a serial byte stream into frames: an opcode and its data bytes (document 01, 'Cutting bytes into frames'; document 02, One).
+// Cuts a serial byte stream into frames: an opcode and its data bytes (document 01, 'Cutting bytes
+// into frames'; document 02, One).
 //
 //     128, 130 to 135, 143, 153, 154                      0
 //     129, 136, 138, 141, 142, 147, 150, 151, 155, 158    1
@@ -9,8 +10,9 @@
 //     148, 149, 152                                       1 + N, N the first data byte
 //     all others                                          0, unknown
 //
-// Proved (specs/Cut.antt): whatever the data bytes are, none is read as an opcode, and the byte after them is; so of 511 bytes 128 the
-// last is read as one, and 511 is the least such number. The cut knows nothing of modes, nor of whether a command will be refused.
+// Proved (specs/Cut.antt): whatever the data bytes are, none is read as an opcode, and the byte
+// after them is; so of 511 bytes 128 the last is read as one, and 511 is the least such number. The
+// cut knows nothing of modes, nor of whether a command will be refused.
 ghost use mathlib.Core.Path.{_≡_};
 ghost use Rattle.frame.specs.FrameTable.{dataLength, headerSize};
 ghost use Rattle.frame.specs.Push.{bodySizeAs, storesBodyAs, appendOf, measureOf, emptyPartial};
@@ -32,8 +34,9 @@ pub enum Length {
     Unknown,
 }
 
-// A partial frame (document 01: the held frame): the bytes stored, their number, and how many bytes remain (document 01: are
-// owed). It is empty where both numbers are 0; remaining is 0 while the length is not known.
+// A partial frame (document 01: the held frame): the bytes stored, their number, and how many bytes
+// remain (document 01: are owed). It is empty where both numbers are 0; remaining is 0 while the
+// length is not known.
 #[repr(C)]
 pub struct Partial {
     pub bytes: [u8; 35],
@@ -41,14 +44,16 @@ pub struct Partial {
     pub remaining: usize,
 }
 
-// What the bytes of a slice leave; count of them are taken, and complete where the last of these was the frame's last.
+// What the bytes of a slice leave; count of them are taken, and complete where the last of these
+// was the frame's last.
 pub struct Absorbed {
     pub partial: Partial,
     pub complete: bool,
     pub count: usize,
 }
 
-// The one place where framing is decided. One test over opcodes 0 to 255 holds this match against the frame table.
+// The one place where framing is decided. One test over opcodes 0 to 255 holds this match against
+// the frame table.
 pub fn data_length(op: u8) -> Length
     ensures { λ r. ⌜ r ≡ dataLength op ⌝ }
 {

@@ -45,7 +45,8 @@ numberCases =
     ∷ says (45 ∷ 48 ∷ []) (Minus 0)
     ∷ says (45 ∷ 54 ∷ 53 ∷ 53 ∷ 51 ∷ 53 ∷ []) (Minus 65535)
     ∷ says (45 ∷ 54 ∷ 53 ∷ 53 ∷ 51 ∷ 54 ∷ []) TooLarge
-    -- nothing, a sign alone, two signs, a plus; a letter, the bytes beside the digits, twelve 9s and a letter
+    -- nothing, a sign alone, two signs, a plus; a letter, the bytes beside the digits, twelve 9s
+    -- and a letter
     ∷ says [] NotANumber
     ∷ says (45 ∷ []) NotANumber
     ∷ says (45 ∷ 45 ∷ 49 ∷ []) NotANumber

@@ -33,7 +33,8 @@ passes kind b = cond (eqb kind 0) (isBlank b) (cond (eqb kind 1) (not (isBlank b
 
 -- ---- words
 
--- the next word from a place on: after the blanks, up to the next blank or the end. A place past the end is the end.
+-- the next word from a place on: after the blanks, up to the next blank or the end. A place past
+-- the end is the end.
 abbrev pub wordFrom : List ℕ → ℕ → Word
 wordFrom text from =
     let at = cond (leb from (length text)) from (length text) in
@@ -89,7 +90,8 @@ signedOf word = cond (eqb (getD word 0 0) 45) (minusOf (unsignedOf (drop 1 word)
 
 -- ---- lines out of blocks
 
--- how many bytes of the next part of a line are in a block, and how many of them fit into a line of this room of which `size` bytes are there
+-- how many bytes of the next part of a line are in a block, and how many of them fit into a line of
+-- this room of which `size` bytes are there
 abbrev pub partSize : List ℕ → ℕ → ℕ
 partSize block from = front (passes 2) (drop from block)
 

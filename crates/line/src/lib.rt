@@ -1,4 +1,5 @@
-// Lines of text, their words, and the numbers that words say, for a program that reads what a person types. Places are indices of the line, from 0.
+// Lines of text, their words, and the numbers that words say, for a program that reads what a
+// person types. Places are indices of the line, from 0.
 ghost use mathlib.Core.Path.{_≡_};
 ghost use mathlib.Core.Bool.{cond};
 ghost use Prim.Native.Nat.{_+_, _-_, _≤_};
@@ -23,8 +24,8 @@ pub struct Word {
     pub end: usize,
 }
 
-// What a part of a line leaves: the place in the block after it, how many bytes the line has now, whether its newline was there, and whether bytes
-// did not fit.
+// What a part of a line leaves: the place in the block after it, how many bytes the line has now,
+// whether its newline was there, and whether bytes did not fit.
 pub struct Gathered {
     pub next: usize,
     pub size: usize,
@@ -97,7 +98,8 @@ fn least(a: usize, b: usize) -> usize
     if a <= b { a } else { b }
 }
 
-// The next word from a place on; it is empty, and stands at the end, where there is none. It lies in the text, so that a caller may lend `&text[start..end]`.
+// The next word from a place on; it is empty, and stands at the end, where there is none. It lies
+// in the text, so that a caller may lend `&text[start..end]`.
 pub fn next_word(text: &[u8], from: usize) -> Word
     ensures { λ r. ⌜ (r ≡ wordFrom (now (text .entry)) from) × ((r .start ≤ r .end) × (r .end ≤ length (now (text .entry)))) ⌝ }
 {
@@ -173,7 +175,8 @@ fn left_in(room: usize, size: usize) -> usize
     if size < room { room - size } else { 0 }
 }
 
-// Appends the next part of a line to the `size` bytes of it that are there: a line may lie across blocks. What does not fit is passed over.
+// Appends the next part of a line to the `size` bytes of it that are there: a line may lie across
+// blocks. What does not fit is passed over.
 pub fn gather(block: &[u8], from: usize, line: &mut [u8], size: usize) -> Gathered
     ensures { λ r. ⌜ (r ≡ gatheredOf (now (block .entry)) from size (length (now (line .entry))))
         × (now (line .exit) ≡ placed (partOf (now (block .entry)) from size (length (now (line .entry)))) size (now (line .entry))) ⌝ }

@@ -1,4 +1,5 @@
--- Which records the board takes (document 01, 'Bad record'): a bad record is one that isn't accepted.
+-- Which records the board takes (document 01, 'Bad record'): a bad record is one that
+-- isn't accepted.
 -- Assumes nothing.
 use mathlib.Core.Bool.{Bool, true, not, cond, _&&_, _||_}
 use mathlib.Core.List.{List, [], _∷_, map}
@@ -35,7 +36,8 @@ orderNamed m = among (noOrder ∷ drive ∷ direct ∷ []) (m .order)
 unfoldable pub offUnlessDriven : ℕ → Motors → Bool
 offUnlessDriven mode m = not (among (off ∷ passive ∷ []) mode) || motorsOff m
 
--- 'outside the ranges above': those are the legal data of the command that sets the field; here of one that uses no payload
+-- 'outside the ranges above': those are the legal data of the command that sets the field; here of
+-- one that uses no payload
 abbrev pub legalNumbers : Command → Bool
 legalNumbers c = legalOf (message c (replicate 32 0))
 
@@ -112,8 +114,8 @@ items s =
     ∷ isFlag (s .stream .on)
     ∷ []
 
--- ---- what is true of every value of the type, and bounds what no item does: each array has its length, bytes are bytes, i16s are i16s. The held
--- frame's array is part of its own test.
+-- ---- what is true of every value of the type, and bounds what no item does: each array has its
+-- length, bytes are bytes, i16s are i16s. The held frame's array is part of its own test.
 
 abbrev pub isWord : ℤ → Bool
 isWord v = isIn (minus 32768 to pos 32767) v

@@ -1,5 +1,6 @@
--- Records in numbers: each item of document 01's list, broken alone, beside a neighbour that is accepted. One record is written out, and the others differ
--- from it by the setters. The values that make a record bad or good are numbers, and cite no range and no rule.
+-- Records in numbers: each item of document 01's list, broken alone, beside a neighbour that is
+-- accepted. One record is written out, and the others differ from it by the setters. The values
+-- that make a record bad or good are numbers, and cite no range and no rule.
 -- Assumes nothing.
 use mathlib.Core.Bool.{Bool, true, not, cond, _&&_}
 use mathlib.Core.List.{List, [], _∷_, _++_}
@@ -50,7 +51,8 @@ pub record Case : Type 0 where
 abbrev case : State → State → Case
 case a b = record { bad = a; mended = b }
 
--- with a value that makes it bad, and with one that does not: at the end of a range the number outside and the one inside
+-- with a value that makes it bad, and with one that does not: at the end of a range the number
+-- outside and the one inside
 abbrev ends {ℓ} : {A : Type ℓ} → (A → State) → A → A → Case
 ends set out within = case (set out) (set within)
 
@@ -90,7 +92,8 @@ recordCases =
     (ends (λ m. withMode m moving) 4 3 ∷ ends (λ m. withMode m moving) 255 2 ∷ [])
     -- a kind of wheel order
     ∷ (ends (λ k. withWheels k (pos 200) (pos 500) moving) 3 2 ∷ [])
-    -- Off or Passive with a motor not off: a Drive of velocity 0 is not off, and the numbers of no order may be anything
+    -- Off or Passive with a motor not off: a Drive of velocity 0 is not off, and the numbers of no
+    -- order may be anything
     ∷ (ends (λ m. withMode m moving) 1 2
     ∷ ends (λ k. withWheels k (pos 0) (pos 500) (still 1)) 1 0
     ∷ ends (λ k. withWheels k (pos 0) (pos 0) (still 1)) 2 0
@@ -147,7 +150,8 @@ recordCases =
     ∷ ends (λ n. withList n (padded 16 (29 ∷ [])) moving) 0 1
     ∷ ends (λ id. withList 2 (set (padded 16 (29 ∷ 13 ∷ [])) 15 id) moving) 1 0
     ∷ [])
-    -- a held frame that the frame table can't leave: an unused place; a number of bytes, and of those remaining; a frame that is complete, or stored past its count
+    -- a held frame that the frame table can't leave: an unused place; a number of bytes, and of
+    -- those remaining; a frame that is complete, or stored past its count
     ∷ (ends holdingAt 2 1
     ∷ ends holdingAt 34 1
     ∷ ends (λ n. withPartial (record { bytes = padded 35 (137 ∷ 0 ∷ []); count = n; remaining = 3 }) moving) 36 2

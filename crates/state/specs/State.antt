@@ -1,4 +1,5 @@
--- The state record: power-on, and the setters, which alone change it (document 01, 'Commands at their last byte').
+-- The state record: power-on, and the setters, which alone change it (document 01, 'Commands at
+-- their last byte').
 -- Assumes nothing.
 use mathlib.Core.Bool.{Bool, _&&_}
 use mathlib.Core.List.{List, [], _∷_}
@@ -51,7 +52,8 @@ isYes flag = eqb flag 1
 abbrev pub motorsStopped : Motors
 motorsStopped = record { order = noOrder; first = pos 0; second = pos 0; duties = 0 ∷ 0 ∷ 0 ∷ [] }
 
--- 'motors are off only so': a Drive order of velocity 0 is not off. The numbers of no order may be anything.
+-- 'motors are off only so': a Drive order of velocity 0 is not off. The numbers of no order may
+-- be anything.
 unfoldable pub motorsOff : Motors → Bool
 motorsOff m = eqb (m .order) noOrder && allZero (m .duties)
 
@@ -67,7 +69,8 @@ songAt songs n = getD (songs .table) n unset
 
 -- ---- power-on
 
--- Off, motors off, no songs, selected song 0, not playing, empty list, streaming off, baud code 10, all kept bytes 0, nothing held
+-- Off, motors off, no songs, selected song 0, not playing, empty list, streaming off, baud code 10,
+-- all kept bytes 0, nothing held
 unfoldable pub powerOn : State
 powerOn =
     record {

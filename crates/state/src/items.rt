@@ -125,7 +125,7 @@ fn is_flag(flag: u8) -> bool
     flag <= crate::YES
 }
 
-// What is told of an item.
+// The mark of an item.
 fn mark(holds: bool) -> u8
     ensures { λ r. ⌜ r ≡ cond holds 0 1 ⌝ }
 {

@@ -1,4 +1,5 @@
-// The state record of the board: what it is at power-on, which records are bad (document 01, 'Bad record'), and whether two are the same.
+// The state record of the board: what it is at power-on, which records are bad (document 01, 'Bad
+// record'), and whether two are the same.
 //
 //     mode       0 Off, 1 Passive, 2 Safe, 3 Full
 //     motors     the wheel order and three duties
@@ -7,10 +8,13 @@
 //     stream     the stream list, whether streaming is on
 //     partial    the held frame
 //
-// The board's caller will hand a record in with each call, so it may be any value of the type. This crate says which are bad; the number 8 is the board's.
-// Proved (specs/Record.antt): which records are accepted, exactly; the power-on record is; each setter keeps a record accepted, under the condition on what it
-// sets; and (specs/Same.antt) the test of two records is equality.
-// `broken` tells which items of the test a record breaks: none, exactly where it is accepted.
+// The board's caller will hand a record in with each call, so it may be any value of the type. This
+// crate says which are bad; the number 8 is the board's. `broken` says which items of the test a
+// record breaks: none, exactly where it is accepted.
+//
+// Proved (specs/Record.antt): which records are accepted, exactly; the power-on record is; each
+// setter keeps a record accepted, under the condition on what it sets; and (specs/Same.antt) the
+// test of two records is equality.
 mod compare;
 mod items;
 mod setters;
@@ -61,8 +65,8 @@ pub const NO: u8 = 0;
 
 pub const YES: u8 = 1;
 
-// A wheel order: its kind, and velocity and radius of a Drive, or right and left of a Direct. Of no order the two numbers may be anything.
-// Driver i's duty is duties[i].
+// A wheel order: its kind, and velocity and radius of a Drive, or right and left of a Direct. Of no
+// order the two numbers may be anything. Driver i's duty is duties[i].
 #[repr(C)]
 pub struct Motors {
     pub order: u8,
@@ -71,7 +75,8 @@ pub struct Motors {
     pub duties: [u8; 3],
 }
 
-// What is kept as it was sent: the code for the serial speed, the LEDs' three bytes, the digital outputs, the IR byte.
+// What is kept as it was sent: the code for the serial speed, the LEDs' three bytes, the digital
+// outputs, the IR byte.
 #[repr(C)]
 pub struct Kept {
     pub baud: u8,
@@ -187,7 +192,8 @@ fn duties_legal(motors: Motors) -> bool
         && (duties[1] <= command::FULL_DUTY && duties[0] <= command::FULL_DUTY)
 }
 
-// The tests of a record, part by part. The ranges are those of the commands that set it, by the names that `command` and `packet` have for them.
+// The tests of a record, part by part. The ranges are those of the commands that set it, by the
+// names that `command` and `packet` have for them.
 
 fn motors_ok(mode: u8, motors: Motors) -> bool
     ensures { λ r. ⌜ r ≡ motorsOk mode motors ⌝ }
@@ -216,7 +222,8 @@ fn mask() -> [u8; 64]
     mask
 }
 
-// Whether the places from `used` on are 0. All 32 are looked at, as many as the type says, which the compiler does at once: the mask hides those in use.
+// Whether the places from `used` on are 0. All 32 are looked at, as many as the type says, which
+// the compiler does at once: the mask hides those in use.
 fn clear_past(notes: [u8; 32], used: usize, mask: &[u8; 64]) -> bool
     requires { ⌜ used ≤ 32 ⌝ }
     requires { ⌜ now mask ≡ replicate 32 0 ++ replicate 32 255 ⌝ }
@@ -241,7 +248,8 @@ fn song_ok(song: Song, mask: &[u8; 64]) -> bool
     len <= frame::LEGAL_COUNT && clear_past(notes, 2 * (len as usize), mask)
 }
 
-// The selected song and each of the 16 are tested in one function, since each that is handed the table copies it.
+// The selected song and each of the 16 are tested in one function, since each that is handed the
+// table copies it.
 fn songs_ok(songs: Songs) -> bool
     ensures { λ r. ⌜ r ≡ songsOk songs ⌝ }
 {

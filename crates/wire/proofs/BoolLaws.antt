@@ -1,4 +1,5 @@
--- Bool tests as facts. The library has those on `&&`, `||` and `not` (`mir.Facts`), and on the tests of numbers (`borrow.Author.Tests`).
+-- Bool tests as facts. The library has those on `&&`, `||` and `not` (`mir.Facts`), and on the
+-- tests of numbers (`borrow.Author.Tests`).
 -- Assumes nothing.
 use mathlib.Core.Path.{_≡_, refl, sym, ap, subst, _∙_}
 use mathlib.Core.Bool.{Bool, true, false, not, cond, _&&_, _||_, Bool·beq}

@@ -75,7 +75,8 @@ put-start {a} {d} x = x .bytes ∙ placed-start a d
 
 -- ---- Left: the invariant of a loop that writes
 
--- the bytes `left`, once they are put at `out`, make the whole that is put at `at` into the buffer that was `before`
+-- the bytes `left`, once they are put at `out`, make the whole that is put at `at` into the buffer
+-- that was `before`
 pub record Left (whole : List ℕ) (at : ℕ) (before left buffer : List ℕ) (out : ℕ) : Type 0 where
   pub same : length buffer ≡ length before
   pub room : out + length left ≤ length buffer

@@ -1,4 +1,5 @@
--- Laws of whole numbers that the library has not: sums of a sum and a difference, products, absolute values, quotients, and a common factor.
+-- Laws of whole numbers that the library has not: sums of a sum and a difference, products,
+-- absolute values, quotients, and a common factor.
 -- Assumes nothing.
 use mathlib.Core.Path.{_≡_, refl, sym, ap, _∙_}
 use Prim.Native.Nat.{ℕ, zero, suc, _+_, _-_, _*_, _/_, _%_, _<_, _≤_}

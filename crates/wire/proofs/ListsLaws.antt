@@ -228,7 +228,8 @@ zeros-are (x ∷ xs) t =
     let s = and-yes (isZero x) (allZero xs) t in
     ap (λ (n : ℕ). n ∷ xs) (eqb→eq x 0 (s .0)) ∙ ap (λ (l : List ℕ). 0 ∷ l) (zeros-are xs (s .1))
 
--- one turn of a loop that puts the bits of the places from i on together, of which those before gave b
+-- one turn of a loop that puts the bits of the places from i on together, of which those before
+-- gave b
 pub zeros-next : (l : List ℕ) (i b : ℕ) → i < length l
     → (isZero b && allZero (drop i l)) ≡ (isZero (bitOr b (getD l i 0)) && allZero (drop (i + 1) l))
 zeros-next l i b h =

@@ -1,5 +1,6 @@
--- A `match` on a number against a rule: one test, which antt computes over all the numbers, shows that each arm gives what the rule says.
--- The compiler tests for the single numbers of the arms (their keys) first, and then for ranges, from which all keys are gone.
+-- A `match` on a number against a rule: one test, which antt computes over all the numbers, shows
+-- that each arm gives what the rule says. The compiler tests for the single numbers of the arms
+-- (their keys) first, and then for ranges, from which all keys are gone.
 -- Assumes nothing.
 use mathlib.Core.Path.{_≡_, sym, subst}
 use mathlib.Core.Bool.{Bool, true, false, not, _&&_, _||_}

@@ -13,7 +13,8 @@ overwrite a buffer = a ++ drop (length a) buffer
 unfoldable pub placed : List ℕ → ℕ → List ℕ → List ℕ
 placed a i buffer = take i buffer ++ (a ++ drop (i + length a) buffer)
 
--- what a function that writes a at i leaves: the place r after it, and the buffer `after` that was `before`
+-- what a function that writes a at i leaves: the place r after it, and the buffer `after` that
+-- was `before`
 pub record Put (a : List ℕ) (i : ℕ) (before after : List ℕ) (r : ℕ) : Type 0 where
   pub next : r ≡ i + length a
   pub bytes : after ≡ placed a i before

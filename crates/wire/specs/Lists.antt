@@ -30,7 +30,8 @@ abbrev pub sum : List ℕ → ℕ
 sum [] = 0
 sum (x ∷ xs) = x + sum xs
 
--- how many elements there are up to the first that is true, and that one; all of them, where none is
+-- how many elements there are up to the first that is true, and that one; all of them, where
+-- none is
 abbrev pub upToTrue : List Bool → ℕ
 upToTrue [] = 0
 upToTrue (true ∷ bs) = 1

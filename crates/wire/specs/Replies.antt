@@ -1,4 +1,5 @@
--- What a call that answers with bytes gives back: a refusal with its number, or the bytes (document 01, 'Numbers given back').
+-- What a call that answers with bytes gives back: a refusal with its number, or the bytes (document
+-- 01, 'Numbers given back').
 -- Assumes nothing.
 use mathlib.Core.Path.{_≡_}
 use mathlib.Core.Bool.{Bool, true, false, cond}
@@ -13,7 +14,8 @@ pub data Reply : Type 0 where
   refused : ℕ → Reply
   wrote : List ℕ → Reply
 
--- the bytes, or 4, data not legal, and else 7, no room: 'answer longer than the lent buffer', of which room is the length
+-- the bytes, or 4, data not legal, and else 7, no room: 'answer longer than the lent buffer', of
+-- which room is the length
 unfoldable pub replyOf : Bool → List ℕ → ℕ → Reply
 replyOf legal bytes room = cond legal (cond (leb (length bytes) room) (wrote bytes) (refused 7)) (refused 4)
 
@@ -27,7 +29,8 @@ abbrev pub leftIn : Reply → List ℕ → List ℕ
 leftIn (refused n) buffer = buffer
 leftIn (wrote bytes) buffer = overwrite bytes buffer
 
--- the one contract of a call that answers with bytes: its result, and the buffer `after` that was `before`; the reply is by the room there
+-- the one contract of a call that answers with bytes: its result, and the buffer `after` that was
+-- `before`; the reply is by the room there
 pub record Replied (reply : ℕ → Reply) (before after : List ℕ) (result : Sent) : Type 0 where
   pub sent : result ≡ sentOf (reply (length before))
   pub buffer : after ≡ leftIn (reply (length before)) before
@@ -38,7 +41,8 @@ pub record ReplyFacts (legal : Bool) (bytes before after : List ℕ) (result : S
   pub number-4 : legal ≡ false → result .number ≡ 4
   pub number-7 : legal ≡ true → length before < length bytes → result .number ≡ 7
   pub number-0 : legal ≡ true → length bytes ≤ length before → result .number ≡ 0
-  -- 0: the length is that of the bytes, which stand at the buffer's start, and what follows them is as it was
+  -- 0: the length is that of the bytes, which stand at the buffer's start, and what follows them is
+  -- as it was
   pub done-length : result .number ≡ 0 → result .length ≡ length bytes
   pub done-bytes : result .number ≡ 0 → take (length bytes) after ≡ bytes
   pub done-rest : result .number ≡ 0 → drop (length bytes) after ≡ drop (length bytes) before

@@ -1,4 +1,5 @@
--- Sixteen-bit numbers: two's complement, high byte first (document 01, under 'Commands at their last byte').
+-- Sixteen-bit numbers: two's complement, high byte first (document 01, under 'Commands at their
+-- last byte').
 -- Assumes nothing.
 use mathlib.Core.Path.{_≡_}
 use mathlib.Core.List.{List, [], _∷_}
@@ -34,7 +35,8 @@ signed16 = signedOf 32768
 unfoldable pub read16Of : ℕ → ℕ → ℤ
 read16Of hi lo = signed16 (hi * 256 + lo)
 
--- THEOREM: what is written is read back, and what is read is written back, for every value of i16 and all bytes
+-- THEOREM: what is written is read back, and what is read is written back, for every value of i16
+-- and all bytes
 pub record RoundTrip16 : Type 0 where
   pub read-written : (v : ℤ) → SFits w16 v → read16Of (high16Of v) (low16Of v) ≡ v
   pub written-read : (hi lo : ℕ) → hi < 256 → lo < 256 → be16 (read16Of hi lo) ≡ hi ∷ lo ∷ []

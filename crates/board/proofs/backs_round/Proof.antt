@@ -1,4 +1,5 @@
--- `board::backs_round` meets its contract: the sum and the difference of two numbers of sixteen bits, and 165 times either, are within 32 bits.
+-- `board::backs_round` meets its contract: the sum and the difference of two numbers of sixteen
+-- bits, and 165 times either, are within 32 bits.
 -- Assumes nothing.
 use mathlib.Core.Path.{sym, _∙_}
 use mathlib.Core.Bool.{or-true}

@@ -1,4 +1,5 @@
--- `board::backs_tightly` meets its contract: the machine compares the numbers that the bits stand for.
+-- `board::backs_tightly` meets its contract: the machine compares the numbers that the bits
+-- stand for.
 -- Assumes nothing.
 use mathlib.Core.Path.{_≡_}
 use mathlib.Core.Bool.{true}

@@ -1,4 +1,5 @@
--- `board::carry_out` meets its contract: what each arm's command needs beside its mode and legal data.
+-- `board::carry_out` meets its contract: what each arm's command needs beside its mode and
+-- legal data.
 -- Assumes nothing.
 use mathlib.Core.Path.{_≡_, refl, sym, ap, subst, _∙_}
 use mathlib.Core.Bool.{Bool, true, false}

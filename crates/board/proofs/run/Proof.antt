@@ -1,4 +1,5 @@
--- `board::run` meets its contract: the loop carries the partial frame, and the rest of the record stays.
+-- `board::run` meets its contract: the loop carries the partial frame, and the rest of the
+-- record stays.
 -- Assumes nothing.
 use mathlib.Core.Path.{_≡_, refl, sym, ap, ap₂, subst, _∙_}
 use mathlib.Core.Bool.{true, false}

@@ -1,4 +1,5 @@
--- `drive::cap_both` meets its contract: each wheel by itself, and a speed is beyond the cap where the cap changes it.
+-- `drive::cap_both` meets its contract: each wheel by itself, and a speed is beyond the cap where
+-- the cap changes it.
 -- Assumes nothing.
 use mathlib.Core.Path.{_≡_, sym, ap, _∙_}
 use mathlib.Core.Bool.{Bool, true, false, not, _||_}

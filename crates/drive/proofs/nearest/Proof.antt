@@ -1,4 +1,5 @@
--- `drive::nearest` meets its contract: the quotient rounded toward zero, or the next number away from zero where twice the rest is no less than the divisor.
+-- `drive::nearest` meets its contract: the quotient rounded toward zero, or the next number away
+-- from zero where twice the rest is no less than the divisor.
 -- Assumes nothing.
 use mathlib.Core.Path.{_≡_, ap, _∙_}
 use mathlib.Core.Bool.{Bool, Bool·beq}

@@ -1,4 +1,5 @@
--- `drive::on_curve` meets its contract: of any two numbers of sixteen bits the numerator is within 32 bits.
+-- `drive::on_curve` meets its contract: of any two numbers of sixteen bits the numerator is within
+-- 32 bits.
 -- Assumes nothing.
 use mathlib.Core.Path.{_≡_, _∙_}
 use Prim.Native.Nat.{_≤_}

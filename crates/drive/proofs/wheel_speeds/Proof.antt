@@ -1,4 +1,5 @@
--- `drive::wheel_speeds` meets its contract: an illegal order is refused, and each arm knows the kind.
+-- `drive::wheel_speeds` meets its contract: an illegal order is refused, and each arm knows
+-- the kind.
 -- Assumes nothing.
 use mathlib.Core.Path.{_≡_, sym, ap, _∙_}
 use mathlib.Core.Bool.{true}

@@ -1,4 +1,5 @@
--- `frame::data_length` meets its contract: the match and the frame table agree, by one test over opcodes 0 to 255.
+-- `frame::data_length` meets its contract: the match and the frame table agree, by one test over
+-- opcodes 0 to 255.
 -- Assumes nothing.
 use mathlib.Core.Path.{_≡_}
 use mathlib.Core.List.{List, [], _∷_}

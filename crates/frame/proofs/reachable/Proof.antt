@@ -1,4 +1,5 @@
--- `frame::reachable` meets its contract: with each test that is passed, what is left of `reachableOf` grows shorter.
+-- `frame::reachable` meets its contract: with each test that is passed, what is left of
+-- `reachableOf` grows shorter.
 -- Assumes nothing.
 use mathlib.Core.Path.{_≡_, sym, ap, _∙_}
 use mathlib.Core.Bool.{true, cond}

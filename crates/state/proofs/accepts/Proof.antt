@@ -1,4 +1,5 @@
--- `state::accepts` meets its contract: with each part that passes, what is left of the test grows shorter.
+-- `state::accepts` meets its contract: with each part that passes, what is left of the test
+-- grows shorter.
 -- Assumes nothing.
 use mathlib.Core.Path.{_≡_, sym, _∙_}
 use mathlib.Core.Bool.{_&&_}

@@ -1,4 +1,5 @@
--- `state::clear_past` meets its contract. The invariant: what was seen of the places from `used` on, and what is left of them to look at.
+-- `state::clear_past` meets its contract. The invariant: what was seen of the places from `used`
+-- on, and what is left of them to look at.
 -- Assumes nothing.
 use mathlib.Core.Path.{_≡_, refl, sym, ap, _∙_}
 use mathlib.Core.Bool.{Bool, _&&_, and-true}

@@ -1,4 +1,5 @@
--- `state::mask` meets its contract: a turn sets the place after those that are set, by one test over all turns.
+-- `state::mask` meets its contract: a turn sets the place after those that are set, by one test
+-- over all turns.
 -- Assumes nothing.
 use mathlib.Core.Path.{_≡_, refl, ap, _∙_}
 use mathlib.Core.Bool.{Bool}

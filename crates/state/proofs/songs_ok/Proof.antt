@@ -1,4 +1,5 @@
--- `state::songs_ok` meets its contract. The loop's invariant: what is left of the table to look at decides.
+-- `state::songs_ok` meets its contract. The loop's invariant: what is left of the table to look
+-- at decides.
 -- Assumes nothing.
 use mathlib.Core.Path.{_≡_, refl, sym, ap, _∙_}
 use mathlib.Core.Bool.{Bool, true, _&&_}

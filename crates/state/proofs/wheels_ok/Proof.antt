@@ -1,4 +1,5 @@
--- `state::wheels_ok` meets its contract: each arm knows the kind, and tests the ranges of a Drive or a Direct.
+-- `state::wheels_ok` meets its contract: each arm knows the kind, and tests the ranges of a Drive
+-- or a Direct.
 -- Assumes nothing.
 use mathlib.Core.Path.{_≡_, sym}
 use mathlib.Core.Bool.{_&&_}

@@ -1,4 +1,5 @@
--- `wire::bits16` meets its contract: v below 0 is -(n + 1), so that -1 - v is n, and 65535 - n its bits.
+-- `wire::bits16` meets its contract: v below 0 is -(n + 1), so that -1 - v is n, and 65535 - n
+-- its bits.
 -- Assumes nothing.
 use mathlib.Core.Path.{sym, ap, _∙_}
 use native.Mathlib.Omega.{arith}
