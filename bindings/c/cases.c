@@ -82,7 +82,7 @@ void check_power_on(const RawdhusaqState *state)
     Check(board_accepts(state) == 1);
 }
 
-/* ---- Document 01's cases W1 to W13. */
+/* ---- The shown cases W1 to W13 (docs/RULES.md). */
 
 static void modes_and_drives(void)
 {

@@ -29,7 +29,7 @@ fn trace(bytes: &[u8]) -> String {
     }
 }
 
-/// The digest as the paper words it, a byte at a time.
+/// The digest as docs/CALLS.md words it, a byte at a time.
 fn digest(bytes: &[u8]) -> u64 {
     bytes.iter().fold(1, |digest, &byte| {
         (digest * 16777619 + u64::from(byte) + 1) % 4294967291
