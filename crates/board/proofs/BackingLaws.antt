@@ -1,4 +1,5 @@
--- Backing round a stair head (document 02, Two): the test of Direct told by the sum and the difference of the wheels, and Direct beside Drive.
+-- Backing round a stair head (docs/RULES.md S7, S8, S9): the test of Direct told by the sum and the
+-- difference of the wheels, and Direct beside Drive.
 -- Assumes nothing.
 use mathlib.Core.Path.{_≡_, refl, sym, ap, subst, _∙_}
 use mathlib.Core.Bool.{Bool, true, false, not, _&&_, _||_, or-false, or-comm}

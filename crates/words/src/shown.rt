@@ -19,7 +19,7 @@ pub fn say_mode(mode: u8) -> usize {
     }
 }
 
-// Document 01's words for a number given back.
+// The words of docs/RULES.md for a number given back (N0 to N9).
 fn meaning(number: u8) -> usize {
     match number {
         0 => say(b" done"),
