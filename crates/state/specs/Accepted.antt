@@ -141,7 +141,8 @@ typed s = motorsTyped (s .motors) && (keptTyped (s .kept) && (songsTyped (s .son
 unfoldable pub acceptedOf : State → Bool
 acceptedOf s = typed s && all (λ item. item) (items s)
 
--- which items a record breaks, in their order: 1 for one that it breaks, and 0 for one that holds
+-- rule B20: which items a record breaks, in their order: 1 for one that it breaks, and 0 for one
+-- that holds
 unfoldable pub brokenOf : State → List ℕ
 brokenOf s = map (λ item. cond item 0 1) (items s)
 
