@@ -1,4 +1,4 @@
--- Backing round a stair head (document 02, Two): the test of Direct told by the sum and the
+-- Backing round a stair head (docs/RULES.md S7, S8, S9): the test of Direct told by the sum and the
 -- difference of the wheels, and Direct beside Drive.
 -- Assumes nothing.
 use mathlib.Core.Path.{_≡_, refl, sym, ap, subst, _∙_}

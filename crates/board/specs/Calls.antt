@@ -1,5 +1,5 @@
--- The five calls, and lists of them (document 01, 'Numbers given back', 'Safety reports', 'Packets
--- and chunks', 'The run of 128s').
+-- The five calls, and lists of them (docs/RULES.md A1, C1, S1 to S12, K1 to K4, N8, N9, U1 to U5,
+-- D1 to D8).
 -- Assumes nothing.
 use mathlib.Core.Bool.{Bool, not, cond, _&&_, _||_}
 use mathlib.Core.List.{List, [], _∷_, _++_, map}
@@ -21,14 +21,14 @@ use Rattle.board.specs.Outcome.{Outcome, gives, fitted}
 use Rattle.board.specs.Judge.{statusOf, judgeOf}
 use Rattle.board.specs.declared.Ran.{Ran}
 
--- 8: a bad record is one that isn't accepted; nothing changed
+-- rule N8: a record that isn't accepted comes back as it was
 abbrev pub checked : State → Outcome → Outcome
 checked s o = cond (acceptedOf s) o (gives 8 s)
 
 -- ---- a byte
 
--- what a pushed byte does: 9, the frame not complete and the byte taken; or the command is judged,
--- its frame read past
+-- what a pushed byte does: it is taken and waits (N9), or its frame is read past and the command
+-- judged (C1)
 unfoldable pub fedOf : State → Pushed → List ℕ → ℕ → Outcome
 fedOf s p image room =
     cond (p .complete)
@@ -40,15 +40,14 @@ byteOf s b image room = checked s (fedOf s (pushOf (s .partial) b) image room)
 
 -- ---- a safety report
 
--- document 02, Two: neither wheel is above 0, the two differ, and 129 times their sum's absolute
--- value is below 165 times their difference's
+-- rule S7: no wheel ahead, the two not alike, and 129 times the size of their sum below 165 times
+-- the size of their difference
 unfoldable pub backsRound : ℤ → ℤ → Bool
 backsRound right left =
     not (ltZ (pos 0) right || ltZ (pos 0) left)
     && ((ltZ right left || ltZ left right) && ltb (129 * natAbs (right +ℤ left)) (165 * natAbs (right -ℤ left)))
 
--- the base moves into a cliff: Drive with velocity above 0; Drive with velocity below 0 and radius
--- strictly between -165 and 165; Direct with either wheel above 0; Direct that backs round it
+-- the base moves into a cliff: rules S4 to S7, a line each
 unfoldable pub intoCliff : Motors → Bool
 intoCliff m =
     (eqb (m .order) drive && ltZ (pos 0) (m .first))
@@ -56,11 +55,11 @@ intoCliff m =
     || ((eqb (m .order) direct && (ltZ (pos 0) (m .first) || ltZ (pos 0) (m .second)))
     || (eqb (m .order) direct && backsRound (m .first) (m .second))))
 
--- wheel drop or charger is set, or cliff is set and the base is moving into it
+-- rules S2 and S3, and a cliff that the base moves into
 abbrev pub stopsFor : Motors → Bool → Bool → Bool → Bool
 stopsFor m drop cliff charger = drop || (charger || (cliff && intoCliff m))
 
--- in Safe alone; a half-read frame is not touched
+-- in Safe alone (S10); a half-read frame is not touched (S11)
 abbrev pub afterReport : State → Bool → Bool → Bool → State
 afterReport s drop cliff charger = cond (eqb (s .mode) safe && stopsFor (s .motors) drop cliff charger) (toPassive s) s
 
@@ -69,7 +68,7 @@ reportOf s drop cliff charger = checked s (gives 0 (afterReport s drop cliff cha
 
 -- ---- a tick
 
--- streaming is on and the list isn't empty
+-- there is a chunk to write
 abbrev pub streams : Stream → Bool
 streams x = isYes (x .on) && not (eqb (x .count) 0)
 
@@ -77,7 +76,7 @@ streams x = isYes (x .on) && not (eqb (x .count) 0)
 unfoldable pub chunkNow : State → List ℕ → List ℕ
 chunkNow s image = chunkBytes (statusOf s) image (take (s .stream .count) (s .stream .ids))
 
--- 3 in Off; 0 where there is nothing to write; 7, the tick not done; else the chunk
+-- rules K1 to K3: 3 in Off, 0 with nothing to write, 7 without room, else the chunk
 unfoldable pub tickOf : State → List ℕ → ℕ → Outcome
 tickOf s image room =
     checked s
@@ -86,7 +85,7 @@ tickOf s image room =
 
 -- ---- a song end
 
--- it only clears playing
+-- rule S12: playing is 0 then, and nothing else changes
 unfoldable pub songEndOf : State → Outcome
 songEndOf s = checked s (gives 0 (withPlaying 0 s))
 
@@ -114,14 +113,14 @@ readsNone o = performed o 0
 abbrev pub later : ℕ → Performed → Performed
 later n p = performed (p .outcome) (n + p .read)
 
--- bytes are fed until one gives a number other than 9 or the slice ends
+-- rule U1: byte after byte, up to the first that does not wait
 abbrev pub feed : State → List ℕ → List ℕ → ℕ → Performed
 feed s [] image room = readsNone (gives 9 s)
 feed s (b ∷ bs) image room =
     let o = byteOf s b image room in
     cond (eqb (o .number) 9) (later 1 (feed (o .state) bs image room)) (reads o)
 
--- a bad record is 8 and 0, also for an empty slice
+-- rule U5: a bad record is told before a byte is looked at
 unfoldable pub runOf : State → List ℕ → List ℕ → ℕ → Performed
 runOf s bs image room = cond (acceptedOf s) (feed s bs image room) (readsNone (gives 8 s))
 
@@ -151,7 +150,7 @@ perform s (report drop cliff charger) = readsNone (reportOf s drop cliff charger
 perform s (tick image buffer) = readsNone (tickOf s image (length buffer))
 perform s songEnd = readsNone (songEndOf s)
 
--- each call gets the record that the one before it left
+-- rule D1: the record goes from call to call
 abbrev pub afterBy : Board → State → List Call → State
 afterBy board s [] = s
 afterBy board s (c ∷ cs) = afterBy board (board s c .outcome .state) cs
@@ -167,7 +166,7 @@ bytesOf (report drop cliff charger) = []
 bytesOf (tick image buffer) = []
 bytesOf songEnd = []
 
--- the bytes that it reads
+-- the bytes that it reads (D2)
 abbrev pub bytesIn : State → Call → List ℕ
 bytesIn s c = take (perform s c .read) (bytesOf c)
 
@@ -224,6 +223,6 @@ opcodesRead s cs = opcodes (s .partial) (bytesRead s cs)
 
 -- ---- idle
 
--- Passive, nothing half read, all motors off
+-- Passive, nothing half read, all motors off (D8)
 unfoldable pub idle : State → Bool
 idle s = eqb (s .mode) passive && (eqb (s .partial .count) 0 && (eqb (s .partial .remaining) 0 && motorsOff (s .motors)))

@@ -1,6 +1,6 @@
 -- Demand 1: any bytes, any report, any state record: the board answers, and a refusal has one
--- number, changes nothing but the frame it reads past, and writes nothing (document 01, 'Numbers
--- given back').
+-- number, changes nothing but the frame it reads past, and writes nothing (docs/RULES.md A2, M19,
+-- N8 to N15).
 -- Assumes nothing.
 use mathlib.Core.Path.{_≡_}
 use mathlib.Core.Bool.{Bool, false}

@@ -1,5 +1,6 @@
--- Demand 2: the rules are document 01's tables, its shown cases come out as written, and what our
--- writer writes is read as it was meant. The reader begins here: each field is one part of it.
+-- Demand 2: the definitions are the rules of docs/RULES.md, table by table, its shown cases come
+-- out as written, and what our writer writes is read as it was meant. The reader begins here: each
+-- field is one part of it.
 -- Assumes nothing.
 use mathlib.Core.Path.{_≡_}
 use mathlib.Core.Bool.{true, not}

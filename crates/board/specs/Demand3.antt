@@ -1,5 +1,5 @@
 -- Demand 3: after any list of calls that reads at least 511 bytes, all 128, from any accepted
--- record, the board is idle; and 511 is the least (document 01, 'The run of 128s').
+-- record, the board is idle; and 511 is the least (docs/RULES.md D1 to D10).
 -- Assumes nothing.
 use mathlib.Core.Path.{_≡_}
 use mathlib.Core.Bool.{false}
@@ -57,18 +57,18 @@ endsHeld s cs k =
 -- what holds of a list of calls from s that reads nothing but 128s. Bytes are counted from 0, so
 -- that the named one is byte `untilOpcode`.
 pub record RunOf128s (s : State) (cs : List Call) : Type 0 where
-  -- the named byte is the first that is read as an opcode, and all later ones are too
+  -- rules R1 to R6: the named byte is an opcode, and all later ones are, and none before it
   pub opcode-at : (k : ℕ) → k < length (bytesRead s cs) → getD (opcodesRead s cs) k false ≡ leb (untilOpcode (s .partial)) k
-  -- the bytes before it give 9, save the last of them
+  -- rule D5: those before it wait, but for the last
   pub before-nine : (k : ℕ) → suc k < untilOpcode (s .partial) → k < length (bytesRead s cs) → getD (numbers s cs) k 0 ≡ 9
-  -- which gives the number of the command that it ends
+  -- rule D6: that one gives the number of the command that it ends
   pub last-ends : (k : ℕ) → suc k ≡ untilOpcode (s .partial) → k < length (bytesRead s cs) → getD (numbers s cs) k 0 ≡ endsHeld s cs k
-  -- the named byte and all later ones give 0
+  -- rule D7: it and all later ones give 0
   pub then-zero : (k : ℕ) → untilOpcode (s .partial) ≤ k → k < length (bytesRead s cs) → getD (numbers s cs) k 9 ≡ 0
-  -- from the named byte on the board is idle after every call
+  -- rule D8: the board is idle from it on, after every call
   pub idle-after : (done rest : List Call) → cs ≡ done ++ rest → untilOpcode (s .partial) < length (bytesRead s done) → T (idle (after s done))
 
--- each byte that is read is 128; what a run leaves unread may be anything
+-- each byte that is read is 128; those that a run does not come to may be any (D2)
 abbrev pub All128 : List ℕ → Type 0
 All128 bs = T (all (λ b. eqb b 128) bs)
 
@@ -105,16 +105,17 @@ pub record NeedsAll (cs : List Call) : Type 0 where
 pub record Demand3 : Type 0 where
   pub idle-facts : (s : State) → T (idle s) → IdleFacts s
   pub counts-agree : CountsAgree
-  -- the cut never depends on the mode, nor on a refusal: calls that read no byte leave the held
-  -- frame alone, and bytes of any values are cut as `next` does
+  -- rules F2, D3 and D4: bytes of any values are cut as `nextOf` does, whatever the mode and the
+  -- refusals, and calls that read no byte leave the held frame alone
   pub cut : (s : State) (cs : List Call) → after s cs .partial ≡ afterOf (s .partial) (bytesRead s cs)
-  -- enough; and a board that does nothing, or whose run feeds its first byte alone, does not pass
+  -- rule D9; and a board that does nothing, or whose run feeds its first byte alone, does not pass
   pub ends-idle : EndsIdle perform
   pub does-nothing-not : EndsIdle doesNothing → ⊥
   pub first-byte-not : EndsIdle firstByteOnly → ⊥
   -- byte by byte
   pub run-of-128s : (s : State) → T (acceptedOf s) → (cs : List Call) → All128 (bytesRead s cs) → RunOf128s s cs
-  -- least: of every record in Full with 510 bytes remaining, bad ones too, and bytes of any values
+  -- rule D10: of every record in Full with 510 bytes remaining, bad ones too, and bytes of any
+  -- values
   pub least : (s : State) → s .mode ≡ 3 → s .partial .remaining ≡ 510 → (cs : List Call) → T (idle (after s cs)) → 511 ≤ length (bytesRead s cs)
   -- such a record is accepted; from it 511 bytes 128 end idle, and 510 do not
   pub longest-accepted : T (acceptedOf longest)

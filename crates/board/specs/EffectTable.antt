@@ -1,6 +1,6 @@
--- The column of effects (document 01, 'Commands at their last byte') as data, row by row: samples
--- of every command, each judged in all four modes. What they expect is written out, and cites no
--- effect, mode or range of the rules.
+-- The column of effects (docs/RULES.md C128 to C151) as data, row by row: samples of every command,
+-- each judged in all four modes. What they expect is written out, and cites no effect, mode or
+-- range of the rules.
 -- Assumes nothing.
 use mathlib.Core.Bool.{Bool, true, false, cond}
 use mathlib.Core.List.{List, [], _∷_, map, flatten}
@@ -53,7 +53,7 @@ answeringWith sent bytes = record { sent = sent; sets = λ s. s; answer = bytes 
 abbrev turns : ℕ → ℕ → Entry
 turns op mode = record { opcode = op; after = becomes mode; stops = false; samples = nothingSet [] ∷ [] }
 
--- Passive, stop
+-- entering Passive
 abbrev stopping : ℕ → List Sample → Entry
 stopping op samples = record { opcode = op; after = becomes 1; stops = true; samples = samples }
 
@@ -67,8 +67,8 @@ row modes es = record { modes = modes; entries = es }
 abbrev song : ℕ → List ℕ → Song
 song n notes = record { len = n; notes = padded 32 notes }
 
--- document 01's rows, in its order; 136 has the row that document 02's request One gives it. Modes
--- are 0 Off, 1 Passive, 2 Safe, 3 Full; the image's byte at place k is 100 + k.
+-- the rows of docs/RULES.md, in its order: C128, C129, .. Modes are 0 Off, 1 Passive, 2 Safe, 3
+-- Full; the image's byte at place k is 100 + k.
 abbrev pub effectTable : List EffectRow
 effectTable =
     row (0 ∷ 1 ∷ 2 ∷ 3 ∷ []) (stopping 128 (nothingSet [] ∷ []) ∷ [])
@@ -107,7 +107,7 @@ effectTable =
     ∷ setting (7 ∷ []) (withDuties (128 ∷ 128 ∷ 128 ∷ []))
     ∷ [])
     ∷ [])
-    -- sent for driver 2, 1, 0
+    -- driver 2 is sent first
     ∷ row (2 ∷ 3 ∷ [])
     (staying 144
     (setting (32 ∷ 1 ∷ 127 ∷ []) (withDuties (127 ∷ 1 ∷ 32 ∷ [])) ∷ setting (0 ∷ 128 ∷ 0 ∷ []) (withDuties (0 ∷ 128 ∷ 0 ∷ [])) ∷ []) ∷ [])
@@ -157,7 +157,7 @@ effectTable =
 
 -- ---- the test
 
--- both wheels to no order and all three duties to 0
+-- no wheel order, and no duty
 abbrev stopped : State → State
 stopped s = withDuties (0 ∷ 0 ∷ 0 ∷ []) (withWheels 0 (pos 0) (pos 0) s)
 

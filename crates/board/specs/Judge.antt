@@ -1,5 +1,5 @@
--- What a command does when its last byte comes, by the mode then in force (document 01, 'Commands
--- at their last byte', 'Numbers given back'). It knows no bytes of a frame.
+-- What a command does once its frame is complete (docs/RULES.md C1, the effects of C128 to C151, N0
+-- to N7). It knows no bytes of a frame.
 -- Assumes nothing.
 use mathlib.Core.Bool.{Bool, false, not, cond}
 use mathlib.Core.List.{List, [], _∷_}
@@ -22,11 +22,11 @@ use Rattle.board.specs.Outcome.{Outcome, gives, answers}
 
 -- ---- packets 35 to 42
 
--- a number of a wheel order of this kind; those of no present order are 0
+-- a number of a wheel order of this kind, and 0 where the order is another (P39 to P42)
 abbrev pub ofOrder : ℕ → Motors → ℤ → ℤ
 ofOrder kind m v = cond (eqb (m .order) kind) v (pos 0)
 
--- from the state: 36 is the selected song though it is not set, 38 the list's length though
+-- rules P35 to P42: 36 is the selected song though it is not set, 38 the list's length though
 -- streaming is off
 unfoldable pub statusOf : State → Status
 statusOf s =
@@ -43,7 +43,7 @@ statusOf s =
 
 -- ---- the column of effects
 
--- 138: bit i set: duty i is 128, else 0. place is 1, 2 or 4, the bit's worth.
+-- the duty of a driver by its bit (C138); place is 1, 2 or 4, the bit's worth
 abbrev pub dutyOf : ℕ → ℕ → ℕ
 dutyOf bits place = cond (eqb (bits / place % 2) 1) 128 0
 
@@ -68,14 +68,14 @@ plays n f = record { sets = f; needs = aSong n }
 abbrev asks : List ℕ → Effect
 asks ids = record { sets = λ s. s; needs = packets ids }
 
--- what a command does, by the payload that came with it, in the order of document 01's rows.
--- 'Passive, stop' is toPassive.
+-- what a command does, by the payload that came with it, in the order of the command table's rows:
+-- C128, C129, ..
 abbrev pub effectOf : Command → List ℕ → Effect
 effectOf cmd.Start p = does toPassive
--- code kept; Passive, stop
+-- the code, and Passive
 effectOf (cmd.Baud code) p = does (λ s. toPassive (withBaud code s))
 effectOf cmd.Control p = does (withMode safe)
--- motors kept
+-- the motors stay
 effectOf cmd.Safe p = does (withMode safe)
 effectOf cmd.Full p = does (withMode full)
 effectOf cmd.Power p = does toPassive
@@ -83,27 +83,27 @@ effectOf (cmd.Demo demo) p = does toPassive
 effectOf cmd.Spot p = does toPassive
 effectOf cmd.Cover p = does toPassive
 effectOf cmd.Dock p = does toPassive
--- wheels: that order
+-- a wheel order
 effectOf (cmd.Drive velocity radius) p = does (withWheels drive velocity radius)
 effectOf (cmd.Direct right left) p = does (withWheels direct right left)
 effectOf (cmd.Drivers bits) p = does (withDuties (dutyOf bits 1 ∷ dutyOf bits 2 ∷ dutyOf bits 4 ∷ []))
--- sent for driver 2, 1, 0
+-- driver 2 is sent first
 effectOf (cmd.Duties driver2 driver1 driver0) p = does (withDuties (driver0 ∷ driver1 ∷ driver2 ∷ []))
--- kept as sent
+-- what is only kept
 effectOf (cmd.Leds bits color intensity) p = does (withLeds (bits ∷ color ∷ intensity ∷ []))
 effectOf (cmd.Outputs bits) p = does (withOutputs bits)
 effectOf (cmd.Infrared code) p = does (withInfrared code)
--- song replaced; the notes past its length are 0 in the payload
+-- the places past its notes are 0 in the payload
 effectOf (cmd.Song song notes) p = does (withSong song (record { len = notes; notes = p }))
--- selected, playing
+-- it plays, where it is set and none does
 effectOf (cmd.Play song) p = plays song (λ s. withPlaying 1 (withSelected song s))
--- answers that packet
+-- one id
 effectOf (cmd.Sensors id) p = asks (id ∷ [])
--- answers the packets in order
+-- the ids of its payload
 effectOf (cmd.QueryList ids) p = asks (take ids p)
--- list replaced, streaming on
+-- the list, and streaming
 effectOf (cmd.Stream ids) p = does (λ s. withStreaming 1 (withList ids (take 16 p) s))
--- streaming off or on, list kept
+-- streaming alone
 effectOf (cmd.Pause on) p = does (withStreaming on)
 -- refused as such
 effectOf (cmd.Unknown op) p = does (λ s. s)
@@ -121,13 +121,13 @@ answerOf s (packets ids) image = answerBytes (statusOf s) image ids
 
 -- ---- the numbers
 
--- 5: Play of a song never set
+-- rule N5: a Play whose song is not set
 abbrev pub noSong : State → Needs → Bool
 noSong s nothing = false
 noSong s (aSong n) = not (isSet (songAt (s .songs) n))
 noSong s (packets ids) = false
 
--- 6: Play while playing
+-- rule N6: a Play while one plays
 abbrev pub busy : State → Needs → Bool
 busy s nothing = false
 busy s (aSong n) = isYes (s .songs .playing)
@@ -142,22 +142,22 @@ infix 60 _if_
 abbrev pub _if_ : ℕ → Bool → Rule
 n if b = record { number = n; when = b }
 
--- document 01's numbers 1 to 7, in its order
+-- rules N1 to N7, in their order
 abbrev pub rules : State → Message → List ℕ → ℕ → List Rule
 rules s m image room =
     let c = m .command in
     let needs = effectIn m .needs in
-    -- unknown: opcode not in the frame table
+    -- unknown
     (1 if eqb (refusalOf c) 1)
-    -- not offered: 152 to 158
+    -- not offered
     ∷ (2 if eqb (refusalOf c) 2)
-    -- wrong mode: mode not listed
+    -- wrong mode
     ∷ (3 if not (allowedOf c (s .mode)))
     -- data not legal
     ∷ (4 if not (legalOf m))
     ∷ (5 if noSong s needs)
     ∷ (6 if busy s needs)
-    -- no room: answer longer than the lent buffer
+    -- no room: the answer is longer than the buffer
     ∷ (7 if not (leb (length (answerOf s needs image)) room))
     ∷ []
 
@@ -166,7 +166,7 @@ abbrev pub first : List Rule → State → Outcome → Outcome
 first [] s otherwise = otherwise
 first (r ∷ rs) s otherwise = cond (r .when) (gives (r .number) s) (first rs s otherwise)
 
--- 0 done, otherwise: the effect, and the answer
+-- rule N0: else the effect, and the answer
 abbrev pub judgedBy : List Rule → State → Message → List ℕ → Outcome
 judgedBy rs s m image = first rs s (answers (answerOf s (effectIn m .needs) image) (effectIn m .sets s))
 

@@ -1,5 +1,5 @@
--- What a call gives (document 01, 'Numbers given back'): both equations of a call's contract are
--- read off one outcome.
+-- What a call gives (docs/RULES.md N0 to N14): both equations of a call's contract are read off one
+-- outcome.
 -- Assumes nothing.
 use mathlib.Core.Bool.{Bool, cond, _&&_}
 use mathlib.Core.List.{List, []}
@@ -31,7 +31,7 @@ gives n s = record { number = n; state = s; answer = [] }
 abbrev pub answers : List ℕ → State → Outcome
 answers bytes s = record { number = 0; state = s; answer = bytes }
 
--- the bytes, or 7, no room: answer longer than the lent buffer
+-- the bytes, or 7 where they are longer than the room (N7)
 abbrev pub fitted : List ℕ → ℕ → State → Outcome
 fitted bytes room s = cond (leb (length bytes) room) (answers bytes s) (gives 7 s)
 
@@ -43,6 +43,6 @@ answered o = record { number = o .number; length = length (o .answer); state = o
 unfoldable pub sentAs : Outcome → Sent
 sentAs o = record { number = o .number; length = length (o .answer) }
 
--- the lent buffer at exit: an answer writes only its own length from the buffer's start
+-- the lent buffer at exit: the answer at its start, and behind it what was there (N14)
 unfoldable pub written : Outcome → List ℕ → List ℕ
 written o buffer = overwrite (o .answer) buffer

@@ -1,4 +1,4 @@
--- The rules for every record and every value, in document 01's words: each case of a call beside
+-- The rules for every record and every value, as docs/RULES.md has them: each case of a call beside
 -- what it gives. They cite the columns of modes and legal data, the packets and the setters, and
 -- none of this crate's own tests but `intoCliff`, in laws about it alone. The tables of cases stand
 -- at chosen values, and a rule that is wrong between them would pass those.
@@ -40,11 +40,12 @@ Does c p f =
     (s : State) (image : List ℕ) (room : ℕ) → allowedOf c (s .mode) ≡ true → legalOf (message c p) ≡ true
     → judgeOf s (message c p) image room ≡ gives 0 (f s)
 
--- bit i set: 128, else 0; n is the bits from i on
+-- a duty by its bit (C138); n is the bits from this one on
 abbrev pub dutyFrom : ℕ → ℕ
 dutyFrom n = cond (eqb (n % 2) 1) 128 0
 
--- THEOREM: the column of effects, in document 01's order; 141, 142 and 149 are below
+-- THEOREM: the column of effects, C128, C129, .. in the order of the command table; 141, 142 and
+-- 149 are below
 pub record EffectColumn (p : List ℕ) : Type 0 where
   pub start : Does cmd.Start p toPassive
   pub baud : (code : ℕ) → Does (cmd.Baud code) p (λ s. toPassive (withBaud code s))
@@ -72,7 +73,7 @@ pub record EffectColumn (p : List ℕ) : Type 0 where
 abbrev pub Judged : State → Command → List ℕ → Type 0
 Judged s c p = (allowedOf c (s .mode) ≡ true) × (legalOf (message c p) ≡ true)
 
--- document 01's numbers 1 to 7, each in its case, where none before it applies
+-- rules N1 to N7, each in its case, where none before it applies
 pub data Refused (s : State) (image : List ℕ) (room : ℕ) : Message → ℕ → Type 0 where
   unknown : {m : Message} → refusalOf (m .command) ≡ 1 → Refused s image room m 1
   not-offered : {m : Message} → refusalOf (m .command) ≡ 2 → Refused s image room m 2
@@ -156,8 +157,8 @@ pub record ReportRight (s : State) : Type 0 where
       reportOf s false true false ≡ gives 0 (cond (ltZ (pos 0) v || (ltZ v (pos 0) && (ltZ (minus 165) r && ltZ r (pos 165)))) (toPassive s) s)
   pub cliff-direct : s .mode ≡ 2 → s .motors .order ≡ 2 → (ltZ (pos 0) (s .motors .first) || ltZ (pos 0) (s .motors .second)) ≡ true
       → reportOf s false true false ≡ gives 0 (toPassive s)
-  -- document 02, Two: neither above 0, the right wheel backwards by p and the left by q; p - q and
-  -- q - p stop at 0, so that their sum is how far apart the two are
+  -- rule S7: the right wheel backwards by p and the left by q; p - q and q - p stop at 0, so that
+  -- their sum is how far apart the two are
   pub cliff-backing : s .mode ≡ 2 → s .motors .order ≡ 2 → (p q : ℕ) → s .motors .first ≡ minus p → s .motors .second ≡ minus q
       → reportOf s false true false ≡ gives 0 (cond (ltb (129 * (p + q)) (165 * (p - q + (q - p)))) (toPassive s) s)
   pub cliff-none : s .motors .order ≡ 0 → reportOf s false true false ≡ gives 0 s
@@ -170,7 +171,7 @@ pub record TickRight (s : State) (image : List ℕ) (room : ℕ) : Type 0 where
   pub chunk : (s .mode ≡ 0 → ⊥) → s .stream .on ≡ 1 → 0 < s .stream .count
       → tickOf s image room ≡ fitted (chunkBytes (statusOf s) image (take (s .stream .count) (s .stream .ids))) room s
 
--- ---- a number is given exactly in its case
+-- ---- rule N11: a number is given exactly in its case
 
 -- the case of each number but 0 and 8: a call on an accepted record gives 0 otherwise
 pub data Case : State → Call → ℕ → Type 0 where
@@ -195,13 +196,14 @@ pub record InItsCase (s : State) (c : Call) : Type 0 where
   pub in-case : (n : ℕ) → Case s c n → (0 < n) × (perform s c .outcome .number ≡ n)
   pub case-of : (perform s c .outcome .number ≡ 0 → ⊥) → Case s c (perform s c .outcome .number)
 
--- ---- document 02, One: Demo takes a number
+-- ---- Demo takes a number: rules H9, R8 and C136
 
 -- 136 has come, and its number is owed
 abbrev pub demoHeld : Partial
 demoHeld = stored (136 ∷ []) 1
 
--- what the number gives: 3 in Off; of 255, which is -1, and of 0 to 9 Passive, stop; 4 of any other
+-- what the number gives: 3 in Off; of 255, which is -1, and of 0 to 9 it enters Passive; 4 of any
+-- other
 abbrev pub demoGives : ℕ → State → Outcome
 demoGives b s = cond (eqb (s .mode) 0) (gives 3 s) (cond (eqb b 255 || leb b 9) (gives 0 (toPassive s)) (gives 4 s))
 
@@ -215,7 +217,7 @@ pub record DemoRight (s : State) (image : List ℕ) (room : ℕ) : Type 0 where
   pub named : untilOpcode demoHeld ≡ 1
   pub before-named : byteOf (withPartial demoHeld s) 128 image room .number ≡ cond (eqb (s .mode) 0) 3 4
 
--- ---- document 02, Two: backing round a stair head
+-- ---- backing round a stair head: rules S7, S8 and S9
 
 -- THEOREM: whether the base is moving into a cliff by Direct
 pub record BackingRight (s : State) : Type 0 where
@@ -241,5 +243,5 @@ pub record RulesRight : Type 0 where
   pub demo-right : (s : State) → T (acceptedOf s) → s .partial ≡ emptyPartial → (image : List ℕ) (room : ℕ) → DemoRight s image room
   pub backing-right : (s : State) → BackingRight s
   pub exactly : (s : State) → T (acceptedOf s) → (c : Call) → T (allBytes (bytesOf c)) → InItsCase s c
-  -- a song end only clears playing
+  -- rule S12: playing alone is cleared
   pub song-end-right : (s : State) → T (acceptedOf s) → songEndOf s ≡ gives 0 (withPlaying 0 s)

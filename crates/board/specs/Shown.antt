@@ -1,6 +1,5 @@
--- Document 01's shown cases, W1 to W13, as one table that a board is held against; and boards that
--- it rejects (document 01, 'How tight the statements are'). What the cases expect is written out,
--- and cites no rule.
+-- The shown cases, docs/RULES.md W1 to W13, as one table that a board is held against; and boards
+-- that it rejects (docs/RULES.md Q9). What the cases expect is written out, and cites no rule.
 -- Assumes nothing.
 use mathlib.Core.Bool.{Bool, not, cond, _&&_}
 use mathlib.Core.List.{List, [], _∷_, _++_, map, flatMap}
@@ -213,7 +212,7 @@ runningBy f s (report drop cliff charger) = perform s (report drop cliff charger
 runningBy f s (tick image buffer) = perform s (tick image buffer)
 runningBy f s songEnd = perform s songEnd
 
--- a run feeds its first byte and merely counts the others
+-- a run looks at its first byte alone, and counts them all
 abbrev pub firstByteOnly : Board
 firstByteOnly =
     runningBy (λ s bs image buffer.
@@ -227,8 +226,8 @@ countsSlice = runningBy (λ s bs image buffer. performed (runOf s bs image (leng
 abbrev countsLess : Board
 countsLess = runningBy (λ s bs image buffer. let p = runOf s bs image (length buffer) in performed (p .outcome) (p .read - 1))
 
--- a wrong board, and the case that rejects it: the one that document 01 names, for a count W3, in a
--- run that leaves bytes unread, and for an answer W11
+-- a wrong board, and the case that rejects it; for a count it is W3, in a run that leaves bytes
+-- unread
 pub record Rejection : Type 0 where
   pub board : Board
   pub case : ByteCase

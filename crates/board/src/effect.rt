@@ -28,7 +28,7 @@ fn with_drivers(state: State, bits: u8) -> State
     state::with_duties(state, duties)
 }
 
-// What a command does, in the order of document 01's rows.
+// What a command does (docs/RULES.md C128 to C151), in the order of the command table.
 pub fn effect(state: State, message: Message) -> State
     ensures { λ r. ⌜ r ≡ effectIn message .sets state ⌝ }
 {

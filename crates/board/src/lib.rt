@@ -1,21 +1,18 @@
-// The board: five calls on a state record, which goes in by value and comes back by value with
-// document 01's number.
+// The board: five calls on a state record, which goes in by value and comes back by value with one
+// of the numbers of docs/RULES.md N0 to N9.
 //
-//     byte             one byte of a frame; a command is judged when its last byte comes, by the
-//                      mode then in force
-//     run              the bytes of a slice, until one gives a number other than 9 or the slice
-//                      ends
-//     safety_report    wheel drop, cliff, powered charger: in Safe it may stop the motors and enter
-//                      Passive
-//     tick             the chunk of the stream list
-//     song_end         the song that plays has ended
+//     byte             one byte; the last of a frame has its command judged (C1)
+//     run              the bytes of a slice, up to the first that does not wait (U1 to U5)
+//     safety_report    wheel drop, cliff, powered charger: in Safe it may stop the base (S1 to S11)
+//     tick             the chunk of the stream list (K1 to K8)
+//     song_end         the song that plays has ended (S12)
 //
 //     8 bad record, 9 waiting, then 1 unknown, 2 not offered, 3 wrong mode, 4 data, 5 no song,
 //     6 busy, 7 no room, and else 0 done
 //
 // Proved (specs/Demand1.antt, Demand2.antt, Demand3.antt): for any record, bytes, report and buffer
 // there is an answer, and a refusal changes nothing but the frame it reads past and writes nothing;
-// the tables and the shown cases of document 01 come out as written; and from any accepted record
+// the tables and the shown cases of docs/RULES.md come out as written; and from any accepted record
 // every list of calls that reads at least 511 bytes, all 128, ends in Passive with nothing half
 // read and all motors off, and 511 is the least.
 mod effect;
@@ -45,7 +42,7 @@ use state::Songs;
 use state::State;
 use wire::Sent;
 
-// Document 01's numbers given back; 4 and 7 are wire's.
+// The numbers given back, rules N0 to N9; 4 and 7 are wire's.
 const DONE: u8 = 0;
 
 const UNKNOWN: u8 = 1;
@@ -62,8 +59,8 @@ const BAD_RECORD: u8 = 8;
 
 const WAITING: u8 = 9;
 
-// What a call gives back: document 01's number, the length of what it wrote at its buffer's start,
-// and the new record.
+// What a call gives back: its number, the length of what it wrote at its buffer's start, and the
+// new record.
 #[repr(C)]
 pub struct Answer {
     pub number: u8,
@@ -212,9 +209,8 @@ fn ended(number: u8, state: State, read: usize) -> Ran
     }
 }
 
-// Bytes of a slice, fed until one gives a number other than 9 or the slice ends. The record is
-// checked once, and a frame's data bytes are taken together: before the run's end only the partial
-// frame changes.
+// The bytes of a slice, up to the first that does not wait (rule U1). The record is checked once,
+// and a frame's data bytes are taken together: before the run's end only the partial frame changes.
 pub fn run(state: State, bytes: &[u8], image: &[u8; 40], buffer: &mut [u8]) -> Ran
     ensures { λ r. ⌜ (r ≡ ranAs (runOf state (now (bytes .entry)) (now (image .entry)) (length (now (buffer .entry)))))
         × (now (buffer .exit) ≡ written (runOf state (now (bytes .entry)) (now (image .entry)) (length (now (buffer .entry))) .outcome) (now (buffer .entry))) ⌝ }
@@ -266,16 +262,16 @@ pub fn byte(state: State, b: u8, image: &[u8; 40], buffer: &mut [u8]) -> Answer
     }
 }
 
-// Backwards on a tight curve: a radius strictly between -165 and 165.
+// Backwards on a tight curve (rule S5).
 fn backs_tightly(velocity: i16, radius: i16) -> bool
     ensures { λ r. ⌜ r ≡ (ltZ velocity (pos 0) && (ltZ (minus 165) radius && ltZ radius (pos 165))) ⌝ }
 {
     velocity < 0 && (-165 < radius && radius < 165)
 }
 
-// Backwards round a stair head by Direct. Computed in 32 bits, which hold 165 times the sum or the
-// difference of any two wheels. That the two differ is in the comparison: 165 times no difference
-// is above nothing.
+// Backwards round a stair head by Direct (rule S7). Computed in 32 bits, which hold 165 times the
+// sum or the difference of any two wheels. That the two differ is in the comparison: 165 times no
+// difference is above nothing.
 fn backs_round(right: i16, left: i16) -> bool
     ensures { λ r. ⌜ r ≡ backsRound right left ⌝ }
 {
@@ -289,8 +285,8 @@ fn backs_round(right: i16, left: i16) -> bool
     129 * sum < 165 * difference
 }
 
-// Whether the base moves into a cliff; of a Drive the two numbers are velocity and radius, of a
-// Direct right and left.
+// Whether the base moves into a cliff (rules S4 to S7); of a Drive the two numbers are velocity and
+// radius, of a Direct right and left.
 fn into_cliff(motors: Motors) -> bool
     ensures { λ r. ⌜ r ≡ intoCliff motors ⌝ }
 {
@@ -357,7 +353,7 @@ pub fn tick(state: State, image: &[u8; 40], buffer: &mut [u8]) -> Answer
     }
 }
 
-// A song end only clears playing.
+// A song end (rule S12).
 pub fn song_end(state: State) -> Answer
     ensures { λ r. ⌜ r ≡ answered (songEndOf state) ⌝ }
 {

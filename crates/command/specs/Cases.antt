@@ -50,19 +50,19 @@ frameCases =
     ∷ says (137 ∷ 0 ∷ 100 ∷ 128 ∷ 0 ∷ []) (Drive (pos 100) (minus 32768))
     ∷ says (137 ∷ 254 ∷ 12 ∷ 127 ∷ 255 ∷ []) (Drive (minus 500) (pos 32767))
     ∷ says (138 ∷ 5 ∷ []) (Drivers 5)
-    -- 004's example
+    -- an example of the published Create interface
     ∷ says (139 ∷ 8 ∷ 0 ∷ 128 ∷ []) (Leds 8 0 128)
     ∷ saysWith (140 ∷ 3 ∷ 2 ∷ 60 ∷ 32 ∷ 64 ∷ 16 ∷ []) (Song 3 2) (60 ∷ 32 ∷ 64 ∷ 16 ∷ [])
     ∷ longestSong
     ∷ says (141 ∷ 3 ∷ []) (Play 3)
     ∷ says (142 ∷ 6 ∷ []) (Sensors 6)
     ∷ says (143 ∷ []) Dock
-    -- 004's example: driver 2 first
+    -- an example of that interface: driver 2 first
     ∷ says (144 ∷ 32 ∷ 0 ∷ 128 ∷ []) (Duties 32 0 128)
     -- W6: right first
     ∷ says (145 ∷ 1 ∷ 244 ∷ 254 ∷ 12 ∷ []) (Direct (pos 500) (minus 500))
     ∷ says (147 ∷ 4 ∷ []) (Outputs 4)
-    -- 004's examples; W10
+    -- examples of that interface; W10
     ∷ saysWith (148 ∷ 2 ∷ 29 ∷ 13 ∷ []) (Stream 2) (29 ∷ 13 ∷ [])
     ∷ saysWith (149 ∷ 2 ∷ 9 ∷ 13 ∷ []) (QueryList 2) (9 ∷ 13 ∷ [])
     ∷ says (149 ∷ 0 ∷ []) (QueryList 0)
@@ -96,13 +96,13 @@ otherCases =
 
 -- ---- opcodes and modes
 
--- document 01's number for a variant that is refused as such, and 0 for an offered command
+-- the number by which a variant is refused as such (N1, N2), and 0 for an offered command
 abbrev pub refusalRight : ℕ → Bool
 refusalRight op =
     let expected : ℕ = cond (within 152 158 op) 2 (cond (within 128 151 op && not (eqb op 146)) 0 1) in
     eqb (refusalOf (commandOf (op ∷ []))) expected
 
--- the opcodes, in the order of document 01's rows
+-- the opcodes of C128 to C151, in the order of the rows
 abbrev pub rowOpcodes : List ℕ
 rowOpcodes =
     128 ∷ 129 ∷ 130 ∷ 131 ∷ 132 ∷ 133 ∷ 136 ∷ 134 ∷ 135 ∷ 143 ∷ 137 ∷ 145 ∷ 138 ∷ 144 ∷ 139 ∷ 147 ∷ 151 ∷ 140 ∷ 141 ∷ 142 ∷ 149 ∷ 148 ∷ 150 ∷ []

@@ -1,5 +1,5 @@
--- The command table (document 01, 'Commands at their last byte'; document 02, One): which modes a
--- command is for, and which data are legal.
+-- The command table (docs/RULES.md C128 to C151): which modes a command is for, and which data are
+-- legal.
 -- Assumes nothing.
 use mathlib.Core.Bool.{Bool, true, false, cond, _&&_, _||_}
 use mathlib.Core.List.{List, [], _∷_, map}
@@ -67,11 +67,11 @@ upTo n = (pos 0 to pos n) ∷ []
 abbrev pub anyByte : List Range
 anyByte = upTo 255
 
--- -500 to 500
+-- the legal speeds
 abbrev pub speed : List Range
 speed = (minus 500 to pos 500) ∷ []
 
--- -2000 to 2000 but not 0, or 32767, or -32768
+-- the legal radii (C137): the plain ones, without 0, and the two that say straight on
 abbrev pub radius : List Range
 radius = (minus 2000 to minus 1) ∷ (pos 1 to pos 2000) ∷ (pos 32767 to pos 32767) ∷ (minus 32768 to minus 32768) ∷ []
 
@@ -100,7 +100,7 @@ entry op d = record { opcode = op; legal = d }
 abbrev row : List ℕ → List ℕ → LegalData → Row
 row ops modes d = record { entries = map (λ op. entry op d) ops; modes = modes }
 
--- document 01's rows, in its order; 136 has the row that request One gives it
+-- the rows of docs/RULES.md, in its order: C128, C129, ..
 abbrev pub commandTable : List Row
 commandTable =
     row (128 ∷ []) allFour none
@@ -116,17 +116,17 @@ commandTable =
     -- right, left
     ∷ row (145 ∷ []) SF (ranges (speed ∷ speed ∷ []))
     ∷ row (138 ∷ []) SF (ranges (upTo 7 ∷ []))
-    -- for driver 2, 1, 0
+    -- of driver 2, 1 and 0
     ∷ row (144 ∷ []) SF (ranges (upTo 128 ∷ upTo 128 ∷ upTo 128 ∷ []))
     ∷ row (139 ∷ []) SF (ranges (anyByte ∷ anyByte ∷ anyByte ∷ []))
     ∷ record { entries = entry 147 (ranges (upTo 7 ∷ [])) ∷ entry 151 (ranges (anyByte ∷ [])) ∷ []; modes = SF }
-    -- number, L, any notes
+    -- song, length; its notes may be any bytes
     ∷ row (140 ∷ []) PSF (ranges (upTo 15 ∷ ((pos 1 to pos 16) ∷ []) ∷ []))
     ∷ row (141 ∷ []) SF (ranges (upTo 15 ∷ []))
     ∷ row (142 ∷ []) PSF (ranges (upTo 42 ∷ []))
-    -- N, and the ids by 149's rule
+    -- count, and ids by C149
     ∷ row (149 ∷ []) PSF (record { numbers = upTo 16 ∷ []; payload = listableOf })
-    -- N, and the ids by 148's
+    -- count, and ids by C148
     ∷ row (148 ∷ []) PSF (record { numbers = upTo 16 ∷ []; payload = streamableOf })
     ∷ row (150 ∷ []) PSF (ranges (upTo 1 ∷ []))
     ∷ []
@@ -165,7 +165,7 @@ legalOf m =
     let d = rowOf (m .command) .legal in
     allLegal (d .numbers) (map valueOf (formOf (m .command) .items)) && d .payload (payloadIn m)
 
--- what the writer gives back, by the room in the buffer: 4 for anything but an offered command with
--- legal data, then 7, then the frame
+-- what the writer gives back, by the room in the buffer (T2): 4 for anything but an offered command
+-- with legal data, then 7, then the frame
 abbrev pub writeReply : Message → ℕ → Reply
 writeReply m = replyOf (legalOf m) (encodeOf m)

@@ -50,8 +50,7 @@ pub record ModeColumn : Type 0 where
   pub no-other-mode : (c : Command) (mode : ℕ) → 3 < mode → allowedOf c mode ≡ false
   -- the opcode of an offered command decides, and not its data
   pub by-opcode : (c d : Command) (mode : ℕ) → opcodeOf c ≡ opcodeOf d → refusalOf c ≡ refusalOf d → allowedOf c mode ≡ allowedOf d mode
-  -- what the papers leave free: a variant that is refused as such is for no mode, whatever
-  -- its opcode
+  -- left free (rule Q6): a variant that is refused as such is for no mode, whatever its opcode
   pub unknown-nowhere : (op mode : ℕ) → allowedOf (Unknown op) mode ≡ false
   pub not-offered-nowhere : (op mode : ℕ) → allowedOf (NotOffered op) mode ≡ false
 
@@ -59,18 +58,18 @@ pub record ModeColumn : Type 0 where
 abbrev is : ℤ → ℤ → Bool
 is a b = leZ b a && leZ a b
 
--- -500 to 500
+-- a legal speed
 abbrev pub isSpeed : ℤ → Bool
 isSpeed v = leZ (minus 500) v && leZ v (pos 500)
 
--- -2000 to 2000 but not 0, or 32767, or -32768
+-- a legal radius (C137): within 2000 either way and not 0, or one of the two that say straight on
 abbrev pub isRadius : ℤ → Bool
 isRadius r = (leZ (minus 2000) r && (leZ r (pos 2000) && not (is r (pos 0)))) || (is r (pos 32767) || is r (minus 32768))
 
 -- THEOREM: the column of legal data, for every value of the commands with a signed number or with
 -- more than one data byte
 pub record DataColumn : Type 0 where
-  -- -1 to 9
+  -- rule C136: a Demo's number
   pub demo-legal : (demo : ℤ) (p : List ℕ) → legalOf (message (Demo demo) p) ≡ (leZ (minus 1) demo && leZ demo (pos 9))
   pub drive-legal : (velocity radius : ℤ) (p : List ℕ) → legalOf (message (Drive velocity radius) p) ≡ (isSpeed velocity && isRadius radius)
   pub direct-legal : (right left : ℤ) (p : List ℕ) → legalOf (message (Direct right left) p) ≡ (isSpeed right && isSpeed left)
@@ -79,11 +78,10 @@ pub record DataColumn : Type 0 where
   -- any notes
   pub song-legal : (song notes : ℕ) (p : List ℕ) → T (allBytes p)
       → legalOf (message (Song song notes) p) ≡ (leb song 15 && (leb 1 notes && leb notes 16))
-  -- 149's rule and 148's for the first N ids
+  -- rules C149 and C148, for the first n ids
   pub query-legal : (n : ℕ) (p : List ℕ) → legalOf (message (QueryList n) p) ≡ (leb n 16 && listableOf (take n p))
   pub stream-legal : (n : ℕ) (p : List ℕ) → legalOf (message (Stream n) p) ≡ (leb n 16 && streamableOf (take n p))
-  -- what the papers leave free: a variant that is refused as such has no legal data, whatever
-  -- its opcode
+  -- left free (rule Q6): a variant that is refused as such has no legal data, whatever its opcode
   pub unknown-illegal : (op : ℕ) (p : List ℕ) → legalOf (message (Unknown op) p) ≡ false
   pub not-offered-illegal : (op : ℕ) (p : List ℕ) → legalOf (message (NotOffered op) p) ≡ false
   -- a place that the command does not use makes no difference
@@ -99,7 +97,7 @@ pub record DecodeFacts (bytes : List ℕ) : Type 0 where
   -- in use are theirs
   pub sent-again : encodeOf (decodeOf bytes) ≡ take (length (encodeOf (decodeOf bytes))) bytes
   pub opcode-kept : opcodeOf (decodeOf bytes .command) ≡ getD bytes 0 0
-  -- 1 unknown: opcode not in the frame table; 2 not offered: 152 to 158
+  -- 1 where the opcode is in no row of the frame table (N1), 2 for 152 to 158 (N2)
   pub unknown-exactly : eqb (refusalOf (decodeOf bytes .command)) 1 ≡ inNoRow (dataLength (getD bytes 0 0))
   pub not-offered-exactly : eqb (refusalOf (decodeOf bytes .command)) 2 ≡ within 152 158 (getD bytes 0 0)
   -- the payload is a value of [u8; 32], with 0 in the places that are not in use
@@ -107,7 +105,7 @@ pub record DecodeFacts (bytes : List ℕ) : Type 0 where
   pub rest-zero : T (unusedZero (decodeOf bytes))
   -- a variant that is refused as such uses none
   pub refused-zero : (refusalOf (decodeOf bytes .command) ≡ 0 → ⊥) → decodeOf bytes .payload ≡ replicate 32 0
-  -- what the papers leave free: past a legal count no place is in use
+  -- left free (rule Q6): past a legal count no place is in use
   pub past-notes : getD bytes 0 0 ≡ 140 → 16 < getD bytes 2 0 → decodeOf bytes .payload ≡ replicate 32 0
   pub past-query : getD bytes 0 0 ≡ 149 → 16 < getD bytes 1 0 → decodeOf bytes .payload ≡ replicate 32 0
   pub past-stream : getD bytes 0 0 ≡ 148 → 16 < getD bytes 1 0 → decodeOf bytes .payload ≡ replicate 32 0

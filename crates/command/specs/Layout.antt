@@ -1,5 +1,5 @@
--- A command as bytes: how it is sent, and what a whole frame says (document 01, 'Commands at their
--- last byte'; document 02, One).
+-- A command as bytes: how it is sent, and what a whole frame says (docs/RULES.md C2, and the data
+-- of C128 to C151).
 -- Assumes nothing.
 use mathlib.Core.Bool.{cond}
 use mathlib.Core.List.{List, [], _∷_, _++_}
@@ -61,7 +61,7 @@ refusedAs n op = record { opcode = op; items = []; uses = 0; refusal = n }
 abbrev pub storedCount : ℕ → ℕ
 storedCount n = cond (legalCount n) n 0
 
--- in the order of document 01's rows. A note is two bytes. 1 is unknown, 2 not offered.
+-- in the order of the command table. A note is two bytes. 1 is unknown, 2 not offered.
 abbrev pub formOf : Command → Form
 formOf Start = offered 128 []
 formOf (Baud code) = offered 129 (byte code ∷ [])
@@ -92,7 +92,7 @@ formOf (NotOffered op) = refusedAs 2 op
 abbrev pub opcodeOf : Command → ℕ
 opcodeOf c = formOf c .opcode
 
--- document 01's number for a variant that is refused as such: 1 unknown, 2 not offered; 0 for an
+-- the number by which a variant is refused as such: 1 unknown (N1), 2 not offered (N2); 0 for an
 -- offered command
 abbrev pub refusalOf : Command → ℕ
 refusalOf c = formOf c .refusal
@@ -130,7 +130,7 @@ pub record DecodeRow : Type 0 where
 abbrev decodes : ℕ → (ℕ → ℕ → ℕ → ℕ → Command) → DecodeRow
 decodes op f = record { opcode = op; says = f }
 
--- in the order of document 01's rows
+-- in the order of the command table
 abbrev pub decodeTable : List DecodeRow
 decodeTable =
     decodes 128 (λ a b c d. Start)
@@ -170,8 +170,8 @@ unfoldable pub commandOf : List ℕ → Command
 commandOf bytes = commandFor decodeTable (getD bytes 0 0) (getD bytes 1 0) (getD bytes 2 0) (getD bytes 3 0) (getD bytes 4 0)
 
 -- the message of a frame: its command, and the payload that follows the command's bytes, with 0 in
--- the places that are not in use. Past a legal count, where the papers leave it free, no place is
--- in use.
+-- the places that are not in use. Past a legal count, where it is free (rule Q6), no place is in
+-- use.
 unfoldable pub decodeOf : List ℕ → Message
 decodeOf bytes =
     let c = commandOf bytes in

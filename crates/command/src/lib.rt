@@ -1,5 +1,5 @@
-// What a whole frame says, and the host-side writer of commands (document 01, 'Commands at their
-// last byte'; document 02, One).
+// What a whole frame says, and the host-side writer of commands (docs/RULES.md C1 to C3, T1 to T7;
+// the rows are C128 to C151).
 //
 //     opcode            modes       legal data
 //     128 Start         all four    none
@@ -9,18 +9,17 @@
 //     133               S F         none
 //     136 Demo          P S F       -1 to 9, a signed byte
 //     134, 135, 143     P S F       none
-//     137 Drive         S F         velocity -500 to 500; radius -2000 to 2000 but not 0,
-//                                   or 32767, or -32768
+//     137 Drive         S F         velocity -500 to 500; radius -2000 to 2000 without 0, 32767, -32768
 //     145 Direct        S F         right, then left, each -500 to 500
 //     138 Drivers       S F         0 to 7
 //     144 Duties        S F         0 to 128 each, for driver 2, 1, 0
 //     139 LEDs          S F         any three bytes
 //     147, 151          S F         0 to 7; any
-//     140 Song          P S F       number 0 to 15, L 1 to 16, any notes
+//     140 Song          P S F       song 0 to 15, L 1 to 16, any notes
 //     141 Play          S F         0 to 15
 //     142 Sensors       P S F       0 to 42
 //     149 List          P S F       N 0 to 16, ids 0 to 42
-//     148 Stream        P S F       N and ids as 149, and the ids' sizes plus N at most 255
+//     148 Stream        P S F       as 149; the ids' sizes, with N, make at most 255
 //     150 Pause         P S F       0 off, 1 on
 //
 // Proved (specs/Commands.antt): what the writer writes, pushed byte by byte, is complete at its
@@ -81,7 +80,7 @@ pub enum Command {
     Play(u8),
     // 142
     Sensors(u8),
-    // 149, document 01's List: how many ids of the payload it has.
+    // 149, List: how many ids of the payload it has.
     QueryList(u8),
     // 148: how many ids.
     Stream(u8),
@@ -265,7 +264,7 @@ fn command_of(bytes: [u8; 35]) -> Command
     }
 }
 
-// The message of a complete frame. What it gives past a legal count is free in the papers: it is a
+// The message of a complete frame. What it gives past a legal count is free (rule Q6): it is a
 // payload of which no place is in use, all 0.
 pub fn decode(bytes: [u8; 35]) -> Message
     ensures { λ r. ⌜ r ≡ decodeOf bytes ⌝ }
@@ -339,8 +338,8 @@ pub fn is_radius(v: i16) -> bool
         || (is_in(1, 2000, v) || (is_in(32767, 32767, v) || is_in(-32768, -32768, v)))
 }
 
-// Whether the data are legal. What it gives for a variant that is refused as such is free in the
-// papers: none has legal data.
+// Whether the data are legal. What it gives for a variant that is refused as such is free (rule
+// Q6): none has legal data.
 pub fn legal(message: Message) -> bool
     ensures { λ r. ⌜ r ≡ legalOf message ⌝ }
 {
@@ -390,7 +389,7 @@ fn from_mode(first: u8, mode: u8) -> bool
 }
 
 // Whether a command is for this mode. What it gives for a variant that is refused as such is free
-// in the papers: it is for none.
+// (rule Q6): it is for none.
 pub fn allowed(command: Command, mode: u8) -> bool
     ensures { λ r. ⌜ r ≡ allowedOf command mode ⌝ }
 {

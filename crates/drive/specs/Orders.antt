@@ -1,4 +1,4 @@
--- From a wheel order to a speed for each wheel (document 02, Four).
+-- From a wheel order to a speed for each wheel (docs/RULES.md V1 to V13).
 -- Assumes nothing.
 use mathlib.Core.Bool.{Bool, false, cond, _&&_, _||_}
 use Prim.Native.Nat.{ℕ}
@@ -19,15 +19,14 @@ use Rattle.drive.specs.declared.Speeds.{Speeds}
 abbrev pub wheels : ℤ → ℤ → Wheels
 wheels right left = record { right = right; left = left }
 
--- the exact speeds of velocity v and radius r are these over r: the wheel centres are 258 mm apart
+-- the exact speeds of velocity v and radius r are these over r (V2)
 abbrev pub rightNumerator : ℤ → ℤ → ℤ
 rightNumerator v r = v *ℤ (r +ℤ pos 129)
 
 abbrev pub leftNumerator : ℤ → ℤ → ℤ
 leftNumerator v r = v *ℤ (r -ℤ pos 129)
 
--- Drive: radius 1 turns counterclockwise, -1 clockwise, 32767 and -32768 go straight; any other
--- is plain
+-- a Drive: rules V5, V6 and V7, and V2 for any other radius
 unfoldable pub curveOf : ℤ → ℤ → Wheels
 curveOf v r =
     cond (sameNumber r (pos 1)) (wheels v (negℤ v))
@@ -35,23 +34,23 @@ curveOf v r =
     (cond (sameNumber r (pos 32767) || sameNumber r (minus 32768)) (wheels v v)
     (wheels (nearestOf (rightNumerator v r) r) (nearestOf (leftNumerator v r) r))))
 
--- by the kind of order: Direct passes through, and no order gives 0 and 0
+-- by the kind of order: rules V8 and V9
 abbrev pub wheelsBy : ℕ → ℤ → ℤ → Wheels
 wheelsBy kind first second = cond (eqb kind drive) (curveOf first second) (cond (eqb kind direct) (wheels first second) (wheels (pos 0) (pos 0)))
 
 -- ---- the cap
 
--- beyond 500, either way
+-- beyond 500, either way (V11)
 abbrev pub beyond : ℤ → Bool
 beyond s = ltb 500 (natAbs s)
 
--- to -500 and 500
+-- the cap (V10)
 abbrev pub capOf : ℤ → ℤ
 capOf s = cond (ltZ (pos 500) s) (pos 500) (cond (ltZ s (minus 500)) (minus 500) s)
 
 -- ---- what comes back
 
--- document 01's 0, done
+-- done: number 0
 abbrev pub speeds : ℤ → ℤ → Bool → Speeds
 speeds right left capped = record { number = 0; right = right; left = left; capped = capped }
 
@@ -59,12 +58,11 @@ speeds right left capped = record { number = 0; right = right; left = left; capp
 abbrev pub given : Wheels → Speeds
 given w = speeds (capOf (w .right)) (capOf (w .left)) (beyond (w .right) || beyond (w .left))
 
--- 4, data not legal; there are no speeds
+-- rule V12: there are no speeds
 abbrev pub refused : Speeds
 refused = record { number = 4; right = pos 0; left = pos 0; capped = false }
 
--- 'a value that 01 calls illegal': by the rule for the state record's wheel order, of which the
--- duties are no part
+-- legal is what B2 and B4 let be in a state record, of whose motors the duties are no part here
 abbrev pub orderOf : ℕ → ℤ → ℤ → Motors
 orderOf kind first second = record { order = kind; first = first; second = second; duties = motorsStopped .duties }
 

@@ -1,4 +1,4 @@
--- A quotient rounded to the nearest whole number, halves away from zero (document 02, Four).
+-- A quotient rounded to the nearest whole number, halves away from zero (docs/RULES.md V3, V4).
 -- Assumes nothing.
 use mathlib.Core.Path.{_≡_}
 use mathlib.Core.Logic.{_⊎_}
@@ -29,7 +29,7 @@ pub record HalfWay (n d s k : ℤ) : Type 0 where
 
 -- s is the nearest whole number to n / d, halves away from zero
 pub record Nearest (n d s : ℤ) : Type 0 where
-  -- 'twice the distance from r times it to the numerator is at most r's absolute value'
+  -- near enough (V3): d times s is at most half of d away from n
   pub near : 2 * distance n d s ≤ natAbs d
   -- no other whole number has that property but at a half
   pub only : (k : ℤ) → 2 * distance n d k ≤ natAbs d → (k ≡ s) ⊎ HalfWay n d s k

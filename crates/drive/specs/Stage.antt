@@ -22,7 +22,7 @@ use Rattle.drive.specs.declared.Wheels.{Wheels}
 
 -- ---- a curve
 
--- a plain radius: -2000 to 2000 without 0, 1 and -1
+-- a plain radius (V2)
 abbrev pub isPlain : ℤ → Bool
 isPlain r = within 2 2000 (natAbs r)
 
@@ -41,8 +41,7 @@ pub record CurvesRight : Type 0 where
   pub radii : (r : ℤ) → isRadius r ≡ (isPlain r || isSpecial r)
   -- on a plain one each wheel has the nearest whole number to its exact speed, at every velocity
   pub plain : (v r : ℤ) → isPlain r ≡ true → BothNearest v r (curveOf v r)
-  -- 'Radius 1 turns counterclockwise (right v, left -v), -1 clockwise, 32767 and -32768
-  -- go straight'
+  -- rules V5, V6 and V7: on the spot, and straight on
   pub counterclockwise : (v : ℤ) → curveOf v (pos 1) ≡ wheels v (negℤ v)
   pub clockwise : (v : ℤ) → curveOf v (minus 1) ≡ wheels (negℤ v) v
   pub straight : (v : ℤ) → curveOf v (pos 32767) ≡ wheels v v
@@ -64,19 +63,19 @@ backwards s = record { number = s .number; right = negℤ (s .right); left = neg
 
 -- THEOREM: every kind of order, with any two numbers
 pub record OrdersRight : Type 0 where
-  -- 'no order gives 0 and 0'
+  -- rule V9: no order
   pub none : (a b : ℤ) → speedsOf 0 a b ≡ speeds (pos 0) (pos 0) false
-  -- a Drive with a velocity and a radius that document 01 calls legal, and any other is refused
+  -- a Drive by C137's numbers, and any other is refused (V12)
   pub drive : (v r : ℤ) → speedsOf 1 v r ≡ cond (isSpeed v && isRadius r) (given (curveOf v r)) refused
-  -- 'Direct passes through'
+  -- rule V8: a Direct as it is
   pub direct : (a b : ℤ) → speedsOf 2 a b ≡ cond (isSpeed a && isSpeed b) (speeds a b false) refused
-  -- a kind that isn't named
+  -- a kind that isn't named (V12)
   pub unnamed : (kind : ℕ) (a b : ℤ) → 2 < kind → speedsOf kind a b ≡ refused
-  -- the flag is set exactly when a rounded speed is beyond 500
+  -- rule V11: the flag tells of either wheel
   pub flag : (v r : ℤ) → (isSpeed v && isRadius r) ≡ true → speedsOf 1 v r .capped ≡ (beyond (curveOf v r .right) || beyond (curveOf v r .left))
   -- no wheel is ever told more
   pub bounded : (kind : ℕ) (a b : ℤ) → (natAbs (speedsOf kind a b .right) ≤ 500) × (natAbs (speedsOf kind a b .left) ≤ 500)
-  -- odd in the velocity
+  -- rule V14: odd in the velocity
   pub odd : (v r : ℤ) → speedsOf 1 (negℤ v) r ≡ backwards (speedsOf 1 v r)
 
 -- ---- the state record's order

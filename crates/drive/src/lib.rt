@@ -1,14 +1,14 @@
-// From a wheel order to a speed for each wheel (document 02, Four): what the motor stage wants.
+// From a wheel order to a speed for each wheel (docs/RULES.md V1 to V15): what the motor stage
+// wants.
 //
-//     no order                  0 and 0
-//     Drive, radius r           right v(r + 129)/r, left v(r - 129)/r, each the nearest whole
-//                               number, halves away from zero
-//     Drive, radius 1           counterclockwise: right v, left -v
-//     Drive, radius -1          clockwise: right -v, left v
-//     Drive, 32767, -32768      straight: both v
-//     Direct                    as it is
+//     no order                  0 and 0 (V9)
+//     Drive, radius r           right v(r + 129)/r, left v(r - 129)/r, each rounded (V2 to V4)
+//     Drive, radius 1           right v, left -v (V5)
+//     Drive, radius -1          right -v, left v (V6)
+//     Drive, 32767, -32768      both v (V7)
+//     Direct                    as it is (V8)
 //
-// then each is capped to -500 and 500. An order that document 01 calls illegal is refused with 4.
+// then each is capped to -500 and 500 (V10). An order that is not legal is refused with 4 (V12).
 //
 // Proved (specs/Stage.antt): each speed before the cap is the nearest whole number, the only one
 // but at a half, and there the one further from zero; the cap and its flag in every case; the
@@ -32,7 +32,7 @@ const FASTEST: i32 = 500;
 
 const DONE: u8 = 0;
 
-// Document 01's number, the speed of each wheel, and whether either was capped.
+// The number, 0 or 4, the speed of each wheel, and whether either was capped.
 pub struct Speeds {
     pub number: u8,
     pub right: i16,
@@ -134,8 +134,8 @@ fn refuse() -> Speeds
 }
 
 // The speeds of a wheel order as the state record has it: its kind and its two numbers. It is legal
-// by the record's own rule. What stands beside a 4 is free in the papers: both speeds are 0, and
-// neither was capped (`refused`), so that a motor stage that looks at the speeds alone stands.
+// by the record's own rule. Beside a 4 both speeds are 0, and neither was capped (`refused`, rule
+// V12), so that a motor stage that looks at the speeds alone stands.
 pub fn wheel_speeds(kind: u8, first: i16, second: i16) -> Speeds
     ensures { λ r. ⌜ r ≡ speedsOf kind first second ⌝ }
 {

@@ -1,4 +1,5 @@
--- What crosses to C is numbers alone: the byte of a bool can be anything there.
+-- What crosses to C is numbers alone (docs/RULES.md L4, L5, L8): the byte of a bool can be anything
+-- there.
 -- Assumes nothing.
 use mathlib.Core.Path.{_≡_}
 use mathlib.Core.Bool.{Bool, true, false, not, cond}

@@ -22,7 +22,7 @@ use command::Fields;
 use state::State;
 use steps::flag_of;
 
-// Document 01's number, and the length of what was written at the buffer's start.
+// The number (docs/RULES.md N0 to N9), and the length of what was written at the buffer's start.
 #[repr(C)]
 pub struct Reply {
     pub number: u8,
@@ -70,7 +70,7 @@ pub extern "C" fn board_byte(state: &mut State, b: u8, image: &[u8; 40], buffer:
     }
 }
 
-// Bytes, until one gives a number other than 9 or they end.
+// Bytes, up to the first that does not wait (rule U1).
 #[no_mangle]
 pub extern "C" fn board_run(
     state: &mut State,

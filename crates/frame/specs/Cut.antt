@@ -43,12 +43,12 @@ pub record EveryPush : Type 0 where
   -- of a complete frame nothing remains
   pub complete-done : (p : Partial) (b : ℕ) → pushOf p b .complete ≡ true → pushOf p b .partial .remaining ≡ 0
 
--- what is kept of a frame's bytes: all, or, past its legal count and in a 152, those up to the
--- count byte
+-- what is kept of a frame's bytes (H2 to H5): all, or, past its legal count and in a 152, those up
+-- to the count byte
 abbrev pub keptOf : List ℕ → List ℕ
 keptOf bs = cond (storesBody bs) bs (take (headerOf bs) bs)
 
--- how many bytes are still to come: 0 until the length is known
+-- how many bytes are still to come (H6): 0 until the length is known
 abbrev pub remainingOf : List ℕ → ℕ
 remainingOf bs = cond (ltb (length bs) (headerOf bs)) 0 (frameSize bs - length bs)
 

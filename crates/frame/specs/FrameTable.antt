@@ -1,5 +1,4 @@
--- The frame table (document 01, 'Cutting bytes into frames'; document 02, One): how many data bytes
--- an opcode has.
+-- The frame table (docs/RULES.md F3 to F10): how many data bytes an opcode has.
 -- Assumes nothing.
 use mathlib.Core.Bool.{Bool, true, false, cond}
 use mathlib.Core.List.{List, [], _∷_, _++_}
@@ -17,8 +16,7 @@ pub record Row : Type 0 where
 abbrev row : List ℕ → Length → Row
 row ops n = record { opcodes = ops; length = n }
 
--- document 01's rows, in its order; 136 stands where request One puts it. The last row, 'all
--- others', is the end of the list.
+-- rules F3 to F9, in their order; F10, which has all other opcodes, is the end of the list
 abbrev pub frameTable : List Row
 frameTable =
     row (128 ∷ (fromTo 130 135 ++ (143 ∷ 153 ∷ 154 ∷ []))) (Fixed 0)

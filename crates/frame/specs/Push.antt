@@ -1,5 +1,6 @@
--- One byte, pushed onto the partial frame (document 01: the held frame). A frame is its header, the
--- bytes up to the one that gives its length, and its body, the data bytes after that.
+-- One byte, pushed onto the partial frame, which is the held frame of docs/RULES.md H1 to H10. A
+-- frame is its header, the bytes up to the one that gives its length, and its body, the data bytes
+-- after that.
 -- Assumes nothing.
 use mathlib.Core.Bool.{Bool, true, false, not, cond, _&&_}
 use mathlib.Core.List.{List, [], _∷_}
@@ -23,7 +24,7 @@ frameSizeAs l bytes = 1 + dataBytes l bytes
 unfoldable pub bodySizeAs : Length → List ℕ → ℕ
 bodySizeAs l bytes = frameSizeAs l bytes - headerSize l
 
--- the most that is legal, of the notes of a song and of the ids of a list
+-- the most that is legal, of the notes of a song and of the ids of a list (F11)
 abbrev pub legalCount : ℕ → Bool
 legalCount n = leb n 16
 
@@ -31,7 +32,7 @@ legalCount n = leb n 16
 abbrev pub isScript : List ℕ → Bool
 isScript bytes = eqb (getD bytes 0 0) 152
 
--- whether the body is stored: not past a legal count, and not in a 152
+-- whether the body is stored: not past a legal count (H4), and not in a 152 (H5)
 abbrev pub storesBodyAs : Length → List ℕ → Bool
 storesBodyAs (Fixed n) bytes = true
 storesBodyAs Counted bytes = not (isScript bytes) && legalCount (getD bytes 1 0)
@@ -81,7 +82,7 @@ bodyByteOf p b =
     record { partial = record { bytes = q .bytes; count = q .count; remaining = p .remaining - 1 }; complete = eqb (p .remaining) 1 }
 
 -- while nothing is known to remain the byte is an opcode or another byte of the header; else it is
--- one of the body. On a frame that is not reachable, of which the papers say nothing, the two
+-- one of the body. On a frame that is not reachable, of which the rules say nothing (Q6), the two
 -- numbers and the first bytes decide in the same way.
 abbrev pub pushOf : Partial → ℕ → Pushed
 pushOf p b = cond (eqb (p .remaining) 0) (measureOf (appendOf p b)) (bodyByteOf p b)
@@ -92,7 +93,7 @@ pushOf p b = cond (eqb (p .remaining) 0) (measureOf (appendOf p b)) (bodyByteOf 
 abbrev pub stored : List ℕ → ℕ → Partial
 stored bs n = record { bytes = padded 35 bs; count = length bs; remaining = n }
 
--- nothing is stored (document 01: nothing is held)
+-- nothing is stored: nothing is half read (H7)
 abbrev pub emptyPartial : Partial
 emptyPartial = stored [] 0
 
@@ -105,7 +106,7 @@ abbrev pub afterOf : Partial → List ℕ → Partial
 afterOf p [] = p
 afterOf p (b ∷ bs) = afterOf (nextOf p b) bs
 
--- a byte that comes now begins a frame: it is read as an opcode
+-- a byte that comes now begins a frame, and is its opcode (F1)
 abbrev pub beginsFrame : Partial → Bool
 beginsFrame p = eqb (p .remaining) 0 && eqb (p .count) 0
 

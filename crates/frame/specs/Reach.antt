@@ -1,4 +1,4 @@
--- The partial frames that the frame table can leave between two bytes (document 01, 'Bad record').
+-- The partial frames that bytes can leave (docs/RULES.md B14).
 -- Assumes nothing.
 use mathlib.Core.Bool.{Bool, not, cond, _&&_}
 use Prim.Native.Nat.{_-_}
@@ -12,7 +12,7 @@ use Rattle.frame.specs.declared.Partial.{Partial}
 abbrev pub isArray : Partial → Bool
 isArray p = byteArray 35 (p .bytes)
 
--- a place not in use is 0
+-- a place not in use is 0 (H1)
 abbrev pub unusedZero : Partial → Bool
 unusedZero p = allZero (drop (p .count) (p .bytes))
 
@@ -33,7 +33,7 @@ abbrev pub bodyBegun : Partial → Bool
 bodyBegun p =
     not (eqb (p .remaining) 0) && (remainingFits p && cond (storesBody (p .bytes)) (bodyStored p) (headerAlone p))
 
--- the number remaining is 0 while nothing is stored or the length isn't known
+-- nothing remains until the length is known (H6)
 abbrev pub remainingRight : Partial → Bool
 remainingRight p = cond (ltb (p .count) (headerOf (p .bytes))) (eqb (p .remaining) 0) (bodyBegun p)
 

@@ -1,5 +1,4 @@
--- The run table (document 01, 'The run of 128s'): which byte of a run of 128s is first read as
--- an opcode.
+-- The run table (docs/RULES.md R1 to R5): where a run of 128s has its first opcode.
 -- Assumes nothing.
 use mathlib.Core.Bool.{Bool, not, cond, _&&_}
 use mathlib.Core.List.{List, [], _∷_, map}
@@ -10,7 +9,7 @@ use Rattle.wire.specs.Lists.{all, upToTrue, among}
 use Rattle.frame.specs.Push.{emptyPartial, afterOf, beginsFrame, opcodes}
 use Rattle.frame.specs.declared.Partial.{Partial}
 
--- the table's first column, 'what is held': how far a frame has come
+-- the table's first column: how far a frame has come
 pub data Progress : Type 0 where
   nothing : Progress
   -- the length is known
@@ -26,7 +25,7 @@ pub record RunRow : Type 0 where
 abbrev row : Progress → (ℕ → ℕ) → RunRow
 row p f = record { progress = p; byte = f }
 
--- document 01's rows, in its order
+-- rules R1 to R5, in their order
 abbrev pub runTable : List RunRow
 runTable =
     row nothing (λ k. 1)

@@ -1,5 +1,5 @@
-// Cuts a serial byte stream into frames: an opcode and its data bytes (document 01, 'Cutting bytes
-// into frames'; document 02, One).
+// Cuts a serial byte stream into frames: an opcode and its data bytes (docs/RULES.md F1 to F14, of
+// which the table is F3 to F10).
 //
 //     128, 130 to 135, 143, 153, 154                      0
 //     129, 136, 138, 141, 142, 147, 150, 151, 155, 158    1
@@ -34,9 +34,9 @@ pub enum Length {
     Unknown,
 }
 
-// A partial frame (document 01: the held frame): the bytes stored, their number, and how many bytes
-// remain (document 01: are owed). It is empty where both numbers are 0; remaining is 0 while the
-// length is not known.
+// A partial frame, which is the held frame of docs/RULES.md H1 to H10: the bytes stored, their
+// number, and how many bytes remain, which the rules call owed. It is empty where both numbers are
+// 0; remaining is 0 while the length is not known.
 #[repr(C)]
 pub struct Partial {
     pub bytes: [u8; 35],
@@ -142,7 +142,7 @@ fn absorb_one(p: Partial, b: u8) -> Absorbed
 
 // As many bytes at once as surely belong to one frame: one while its length is not known, and then
 // those that remain; of an empty slice none. On a reachable frame they leave what they leave one by
-// one (specs/Absorb.antt, TakenAtOnce). What is given on another is free in the papers: as many are
+// one (specs/Absorb.antt, TakenAtOnce). What is given on another is free (rule Q6): as many are
 // taken there, and those of a body are stored only where there is room for all of them.
 pub fn absorb(p: Partial, bytes: &[u8]) -> Absorbed
     ensures { λ r. ⌜ r ≡ absorbOf p (now (bytes .entry)) ⌝ }

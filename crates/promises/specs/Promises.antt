@@ -25,8 +25,8 @@ pub record Promises : Type 0 where
   -- stays good.
   pub demand-1 : Demand1
   -- How bytes are cut into commands, what each command and each other call does in each mode, which
-  -- records are bad, sensor packets and stream chunks are those of the rules (document 01, with
-  -- requests One to Three); what our host-side writer writes is read as it was meant.
+  -- records are bad, sensor packets and stream chunks are those of docs/RULES.md; what our
+  -- host-side writer writes is read as it was meant.
   pub demand-2 : Demand2
   -- When the driver is gone: after any calls that read at least 511 bytes, all 128, the base is in
   -- Passive with all motors off and no command half read, whatever good record it began with; and

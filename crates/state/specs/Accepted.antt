@@ -1,5 +1,4 @@
--- Which records the board takes (document 01, 'Bad record'): a bad record is one that
--- isn't accepted.
+-- Which records the board takes (docs/RULES.md B1 to B17): a bad record is one that isn't accepted.
 -- Assumes nothing.
 use mathlib.Core.Bool.{Bool, true, not, cond, _&&_, _||_}
 use mathlib.Core.List.{List, [], _∷_, map}
@@ -22,53 +21,52 @@ use Rattle.state.specs.declared.Songs.{Songs}
 use Rattle.state.specs.declared.Stream.{Stream}
 use Rattle.state.specs.declared.State.{State}
 
--- ---- the items of document 01's list, in its order: each holds of a record that isn't bad by it
+-- ---- the items, B1 to B16 in their order: each holds of a record that isn't bad by that rule
 
--- 'a mode .. that isn't one named above'
+-- rule B1: the mode is one of the four
 unfoldable pub modeNamed : ℕ → Bool
 modeNamed mode = among (off ∷ passive ∷ safe ∷ full ∷ []) mode
 
--- '.. or a kind of wheel order'
+-- rule B2: the kind of wheel order is one of the three
 unfoldable pub orderNamed : Motors → Bool
 orderNamed m = among (noOrder ∷ drive ∷ direct ∷ []) (m .order)
 
--- 'Off or Passive with a motor not off': off unless the mode is one to drive in, Safe or Full
+-- rule B3: motors are off unless the mode is one to drive in, Safe or Full
 unfoldable pub offUnlessDriven : ℕ → Motors → Bool
 offUnlessDriven mode m = not (among (off ∷ passive ∷ []) mode) || motorsOff m
 
--- 'outside the ranges above': those are the legal data of the command that sets the field; here of
--- one that uses no payload
+-- a field's range is the legal data of the command that sets it; here of one that uses no payload
 abbrev pub legalNumbers : Command → Bool
 legalNumbers c = legalOf (message c (replicate 32 0))
 
--- 'a wheel order': the numbers of no order may be anything
+-- rule B4: a wheel order; the numbers of no order may be anything
 unfoldable pub wheelsLegal : Motors → Bool
 wheelsLegal m =
     cond (eqb (m .order) drive)
     (legalNumbers (cmd.Drive (m .first) (m .second)))
     (cond (eqb (m .order) direct) (legalNumbers (cmd.Direct (m .first) (m .second))) true)
 
--- 'duty'
+-- rule B5: duties
 unfoldable pub dutiesLegal : Motors → Bool
 dutiesLegal m = legalNumbers (cmd.Duties (getD (m .duties) 2 0) (getD (m .duties) 1 0) (getD (m .duties) 0 0))
 
--- 'output'
+-- rule B6: outputs
 unfoldable pub outputsLegal : Kept → Bool
 outputsLegal k = legalNumbers (cmd.Outputs (k .outputs))
 
--- 'baud code'
+-- rule B7: the baud code
 unfoldable pub baudLegal : Kept → Bool
 baudLegal k = legalNumbers (cmd.Baud (k .baud))
 
--- 'selected song'
+-- rule B8: the selected song
 unfoldable pub selectedLegal : Songs → Bool
 selectedLegal x = legalNumbers (cmd.Play (x .selected))
 
--- 'stream list (its rule on sizes too)': the count, and the ids in use
+-- rule B9: the stream list, its count and the ids in use, by 148's sizes too
 unfoldable pub streamLegal : Stream → Bool
 streamLegal x = legalOf (message (cmd.Stream (x .count)) (x .ids))
 
--- 'song length (0 is "not set")': else the second number of a 140, here of song 0
+-- rule B10: a song's length is 0, which is not set, or one that a 140 may have; here of song 0
 unfoldable pub lengthLegal : Song → Bool
 lengthLegal song = isZero (song .len) || legalNumbers (cmd.Song 0 (song .len))
 
@@ -76,24 +74,23 @@ lengthLegal song = isZero (song .len) || legalNumbers (cmd.Song 0 (song .len))
 abbrev pub isSet : Song → Bool
 isSet song = not (isZero (song .len))
 
--- 'playing with the selected song not set'
+-- rule B11: while a song plays, the selected one is set
 unfoldable pub playingSet : Songs → Bool
 playingSet x = not (isYes (x .playing)) || isSet (songAt x (x .selected))
 
--- 'a place not in use (in a song, ..) that isn't 0': a note is two bytes
+-- rule B12: the places of a song past its notes are 0; a note is two bytes
 unfoldable pub notesZero : Song → Bool
 notesZero song = allZero (drop (2 * song .len) (song .notes))
 
--- '(.. the list ..)'; those of the held frame are part of its own test
+-- rule B13: the places of the list past its ids are 0; those of the held frame are B14's
 unfoldable pub idsZero : Stream → Bool
 idsZero x = allZero (drop (x .count) (x .ids))
 
--- a flag, playing or streaming, is 0 or 1
+-- rules B15 and B16: a flag, playing or streaming, is 0 or 1
 abbrev pub isFlag : ℕ → Bool
 isFlag n = leb n 1
 
--- all of them; after the list's last, 'a held frame that the frame table can't leave, its owed
--- number included', the two flags
+-- all of them; rule B14 is frame's own test
 abbrev pub items : State → List Bool
 items s =
     modeNamed (s .mode)
@@ -144,7 +141,8 @@ typed s = motorsTyped (s .motors) && (keptTyped (s .kept) && (songsTyped (s .son
 unfoldable pub acceptedOf : State → Bool
 acceptedOf s = typed s && all (λ item. item) (items s)
 
--- which items a record breaks, in their order: 1 for one that it breaks, and 0 for one that holds
+-- rule B20: which items a record breaks, in their order: 1 for one that it breaks, and 0 for one
+-- that holds
 unfoldable pub brokenOf : State → List ℕ
 brokenOf s = map (λ item. cond item 0 1) (items s)
 

@@ -1,4 +1,4 @@
--- Records in numbers: each item of document 01's list, broken alone, beside a neighbour that is
+-- Records in numbers: bad by one of docs/RULES.md B1 to B16 alone, each beside a neighbour that is
 -- accepted. One record is written out, and the others differ from it by the setters. The values
 -- that make a record bad or good are numbers, and cite no range and no rule.
 -- Assumes nothing.
@@ -85,15 +85,15 @@ holding bytes remaining = withPartial (stored bytes remaining) moving
 abbrev holdingAt : ℕ → State
 holdingAt k = withPartial (record { bytes = set (padded 35 (137 ∷ 0 ∷ [])) k 9; count = 2; remaining = 3 }) moving
 
--- for each item in its order, the records that it alone makes bad
+-- for each of B1 to B16 in their order, the records that it alone makes bad
 abbrev pub recordCases : List (List Case)
 recordCases =
     -- a mode
     (ends (λ m. withMode m moving) 4 3 ∷ ends (λ m. withMode m moving) 255 2 ∷ [])
     -- a kind of wheel order
     ∷ (ends (λ k. withWheels k (pos 200) (pos 500) moving) 3 2 ∷ [])
-    -- Off or Passive with a motor not off: a Drive of velocity 0 is not off, and the numbers of no
-    -- order may be anything
+    -- a motor on in Off or Passive: a Drive of velocity 0 is on, and the numbers of no order may be
+    -- anything
     ∷ (ends (λ m. withMode m moving) 1 2
     ∷ ends (λ k. withWheels k (pos 0) (pos 500) (still 1)) 1 0
     ∷ ends (λ k. withWheels k (pos 0) (pos 0) (still 1)) 2 0
@@ -136,22 +136,22 @@ recordCases =
     ∷ [])
     -- song lengths
     ∷ (ends (λ n. withSong 0 (song n (span 1 32)) moving) 17 16 ∷ ends (λ n. withSong 15 (song n (span 1 32)) moving) 17 16 ∷ [])
-    -- playing with the selected song not set
+    -- a song plays, and the selected one is not set
     ∷ (case (withSelected 1 moving) (selecting 1) ∷ ends (λ n. withSelected n moving) 14 15 ∷ case (withSong 0 unset moving) (withSong 0 (song 1 []) moving) ∷ [])
-    -- a place not in use in a song
+    -- an unused place of a song
     ∷ (ends (λ x. withSong 0 x moving) (marked 4 shortSong) (marked 3 shortSong)
     ∷ ends (λ n. withSong 0 (song n (1 ∷ 2 ∷ 3 ∷ 4 ∷ 5 ∷ [])) moving) 2 3
     ∷ ends (λ x. withSong 0 x moving) (marked 31 shortSong) shortSong
     ∷ ends (λ x. withSong 1 x moving) (marked 0 unset) unset
     ∷ ends (λ x. withSong 15 x moving) (marked 31 unset) unset
     ∷ [])
-    -- in the list
+    -- of the list
     ∷ (ends (λ n. withList n (padded 16 (29 ∷ 13 ∷ [])) moving) 1 2
     ∷ ends (λ n. withList n (padded 16 (29 ∷ [])) moving) 0 1
     ∷ ends (λ id. withList 2 (set (padded 16 (29 ∷ 13 ∷ [])) 15 id) moving) 1 0
     ∷ [])
-    -- a held frame that the frame table can't leave: an unused place; a number of bytes, and of
-    -- those remaining; a frame that is complete, or stored past its count
+    -- a held frame that no bytes leave: an unused place; a number of bytes, and of those remaining;
+    -- a frame that is complete, or stored past its count
     ∷ (ends holdingAt 2 1
     ∷ ends holdingAt 34 1
     ∷ ends (λ n. withPartial (record { bytes = padded 35 (137 ∷ 0 ∷ []); count = n; remaining = 3 }) moving) 36 2

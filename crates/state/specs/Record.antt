@@ -88,7 +88,7 @@ pub record SettersRight : Type 0 where
 
 -- ---- power-on and stop
 
--- THEOREM: power-on, in document 01's words
+-- THEOREM: power-on, field by field (rules M1 to M14)
 pub record PowerOnRight : Type 0 where
   pub mode-off : powerOn .mode ≡ 0
   pub motors-off : motorsOff (powerOn .motors) ≡ true
@@ -114,7 +114,7 @@ pub record StopRight : Type 0 where
   -- Passive with a stop, and nothing else
   pub passive-mode : (s : State) → toPassive s .mode ≡ 1
   pub passive-others : (s : State) → butMode (toPassive s) ≡ butMode (stop s)
-  -- motors are off only so
+  -- rule M15: when motors are off
   pub off-order : (m : Motors) → motorsOff m ≡ true → m .order ≡ 0
   pub off-duties : (m : Motors) → motorsOff m ≡ true → (i : ℕ) → getD (m .duties) i 0 ≡ 0
   pub off-so : (m : Motors) → m .order ≡ 0 → m .duties ≡ 0 ∷ 0 ∷ 0 ∷ [] → motorsOff m ≡ true
@@ -132,7 +132,7 @@ pub record RecordsInNumbers : Type 0 where
   pub no-item-without : T (all (λ cs. ltb 0 (length cs)) recordCases)
   pub odd-accepted : T (all acceptedOf oddRecords)
 
--- document 01's list, in plain numbers where it has any
+-- rules B1 to B16, none of which holds, in plain numbers where there are any
 pub record Plain (s : State) : Type 0 where
   pub mode-is : s .mode ≤ 3
   pub order-is : s .motors .order ≤ 2

@@ -1,5 +1,4 @@
--- The state record: power-on, and the setters, which alone change it (document 01, 'Commands at
--- their last byte').
+-- The state record: power-on, and the setters, which alone change it (docs/RULES.md M1 to M18).
 -- Assumes nothing.
 use mathlib.Core.Bool.{Bool, _&&_}
 use mathlib.Core.List.{List, [], _∷_}
@@ -52,8 +51,8 @@ isYes flag = eqb flag 1
 abbrev pub motorsStopped : Motors
 motorsStopped = record { order = noOrder; first = pos 0; second = pos 0; duties = 0 ∷ 0 ∷ 0 ∷ [] }
 
--- 'motors are off only so': a Drive order of velocity 0 is not off. The numbers of no order may
--- be anything.
+-- motors are off (M15): a Drive order of velocity 0 is not off, and the numbers of no order may be
+-- anything
 unfoldable pub motorsOff : Motors → Bool
 motorsOff m = eqb (m .order) noOrder && allZero (m .duties)
 
@@ -69,8 +68,7 @@ songAt songs n = getD (songs .table) n unset
 
 -- ---- power-on
 
--- Off, motors off, no songs, selected song 0, not playing, empty list, streaming off, baud code 10,
--- all kept bytes 0, nothing held
+-- rules M1 to M13, their last column
 unfoldable pub powerOn : State
 powerOn =
     record {
@@ -110,58 +108,58 @@ withPartial p s =
 
 -- ---- and, over these, for what a command sets within a part
 
--- 137 and 145: wheels: that order
+-- a wheel order: 137 and 145
 abbrev pub withWheels : ℕ → ℤ → ℤ → State → State
 withWheels kind first second s =
     withMotors (record { order = kind; first = first; second = second; duties = s .motors .duties }) s
 
--- 138 and 144: those duties, of driver 0, 1, 2
+-- the duties of driver 0, 1 and 2: 138 and 144
 abbrev pub withDuties : List ℕ → State → State
 withDuties ds s = withMotors (record { order = s .motors .order; first = s .motors .first; second = s .motors .second; duties = ds }) s
 
--- 129: code kept
+-- the baud code: 129
 abbrev pub withBaud : ℕ → State → State
 withBaud n s = withKept (record { baud = n; leds = s .kept .leds; outputs = s .kept .outputs; ir = s .kept .ir }) s
 
--- 139: kept as sent
+-- the LEDs' three bytes: 139
 abbrev pub withLeds : List ℕ → State → State
 withLeds bs s = withKept (record { baud = s .kept .baud; leds = bs; outputs = s .kept .outputs; ir = s .kept .ir }) s
 
--- 147: outputs kept
+-- the outputs: 147
 abbrev pub withOutputs : ℕ → State → State
 withOutputs n s = withKept (record { baud = s .kept .baud; leds = s .kept .leds; outputs = n; ir = s .kept .ir }) s
 
--- 151: IR byte kept
+-- the IR byte: 151
 abbrev pub withInfrared : ℕ → State → State
 withInfrared n s = withKept (record { baud = s .kept .baud; leds = s .kept .leds; outputs = s .kept .outputs; ir = n }) s
 
--- 140: song replaced
+-- one song: 140
 abbrev pub withSong : ℕ → Song → State → State
 withSong n song s =
     withSongs (record { table = set (s .songs .table) n song; selected = s .songs .selected; playing = s .songs .playing }) s
 
--- 141: selected
+-- the selected song: 141
 abbrev pub withSelected : ℕ → State → State
 withSelected n s = withSongs (record { table = s .songs .table; selected = n; playing = s .songs .playing }) s
 
--- 141: playing; a song end clears it
+-- playing: 141, and a song end
 abbrev pub withPlaying : ℕ → State → State
 withPlaying n s = withSongs (record { table = s .songs .table; selected = s .songs .selected; playing = n }) s
 
--- 148: list replaced: 16 places, of which the first n are in use
+-- the list, 16 places of which the first n are in use: 148
 abbrev pub withList : ℕ → List ℕ → State → State
 withList n ids s = withStream (record { ids = ids; count = n; on = s .stream .on }) s
 
--- 148 and 150: streaming off or on
+-- streaming, off or on: 148 and 150
 abbrev pub withStreaming : ℕ → State → State
 withStreaming n s = withStream (record { ids = s .stream .ids; count = s .stream .count; on = n }) s
 
 -- ---- stop
 
--- document 01's stop: both wheels to no order and all three duties to 0
+-- a stop (M16): no wheel order, and no duty
 abbrev pub stop : State → State
 stop s = withMotors motorsStopped s
 
--- 'Passive, stop': every entry to Passive is one
+-- entering Passive (M17), which is a stop too
 abbrev pub toPassive : State → State
 toPassive s = withMode passive (stop s)

@@ -1,5 +1,5 @@
-// The state record of the board: what it is at power-on, which records are bad (document 01, 'Bad
-// record'), and whether two are the same.
+// The state record of the board: what it is at power-on (docs/RULES.md M1 to M14), which records
+// are bad (docs/RULES.md B1 to B17), and whether two are the same.
 //
 //     mode       0 Off, 1 Passive, 2 Safe, 3 Full
 //     motors     the wheel order and three duties
@@ -276,7 +276,7 @@ fn songs_ok(songs: Songs) -> bool
     true
 }
 
-// The ids in use are held to 148's rule, sizes included.
+// The ids in use are held to rule C148, sizes included.
 fn stream_ok(stream: Stream) -> bool
     ensures { λ r. ⌜ r ≡ streamOk stream ⌝ }
 {

@@ -161,7 +161,7 @@ pub fn with_streaming(state: State, on: u8) -> State
     with_stream(state, stream)
 }
 
-// Document 01's stop, with Passive: both wheels to no order, and all three duties to 0.
+// Entering Passive (rule M17), and with it a stop: no wheel order, and no duty.
 pub fn to_passive(state: State) -> State
     ensures { λ r. ⌜ r ≡ toPassive state ⌝ }
 {

@@ -1,5 +1,5 @@
--- What a call that answers with bytes gives back: a refusal with its number, or the bytes (document
--- 01, 'Numbers given back').
+-- What a call that answers with bytes gives back: a refusal with its number, or the bytes
+-- (docs/RULES.md N4, N7, N13, N14).
 -- Assumes nothing.
 use mathlib.Core.Path.{_≡_}
 use mathlib.Core.Bool.{Bool, true, false, cond}
@@ -14,8 +14,8 @@ pub data Reply : Type 0 where
   refused : ℕ → Reply
   wrote : List ℕ → Reply
 
--- the bytes, or 4, data not legal, and else 7, no room: 'answer longer than the lent buffer', of
--- which room is the length
+-- 4 where the data are not legal, and else 7 where the bytes are longer than the room, the length
+-- of the lent buffer; else the bytes
 unfoldable pub replyOf : Bool → List ℕ → ℕ → Reply
 replyOf legal bytes room = cond legal (cond (leb (length bytes) room) (wrote bytes) (refused 7)) (refused 4)
 

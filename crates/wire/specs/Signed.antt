@@ -40,8 +40,8 @@ pub record RoundTripBits (half : ℕ) : Type 0 where
   pub bits-fit : (v : ℤ) → mag v < half → bitsOf half v < 2 * half
   pub read-fits : (n : ℕ) → n < 2 * half → mag (signedOf half n) < half
 
--- THEOREM: a Demo's ends (document 02, One) and their neighbours: -1, 9; -2, 10; and the byte 128,
--- which is -128
+-- THEOREM: the ends of a Demo's range (rules F16, C136) and their neighbours: -1, 9; -2, 10; and
+-- the byte 128, which is -128
 pub record BytesShown : Type 0 where
   pub minus-one : ShownByte (negsuc 0) 255
   pub nine : ShownByte (pos 9) 9

@@ -1,5 +1,4 @@
--- Sixteen-bit numbers: two's complement, high byte first (document 01, under 'Commands at their
--- last byte').
+-- Numbers of sixteen bits as two bytes (docs/RULES.md F15).
 -- Assumes nothing.
 use mathlib.Core.Path.{_≡_}
 use mathlib.Core.List.{List, [], _∷_}

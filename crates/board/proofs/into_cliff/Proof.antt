@@ -1,5 +1,4 @@
--- `board::into_cliff` meets its contract: a case of document 01, or of request Two of document 02,
--- for each return.
+-- `board::into_cliff` meets its contract: rules S4 to S7, a case for each return.
 -- Assumes nothing.
 use mathlib.Core.Path.{_≡_, sym, ap, _∙_}
 use mathlib.Core.Bool.{true}
