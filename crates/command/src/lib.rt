@@ -9,7 +9,8 @@
 //     133               S F         none
 //     136 Demo          P S F       -1 to 9, a signed byte
 //     134, 135, 143     P S F       none
-//     137 Drive         S F         velocity -500 to 500; radius -2000 to 2000 without 0, 32767, -32768
+//     137 Drive         S F         velocity -500 to 500; radius -2000 to 2000 without 0,
+//                                   32767, -32768
 //     145 Direct        S F         right, then left, each -500 to 500
 //     138 Drivers       S F         0 to 7
 //     144 Duties        S F         0 to 128 each, for driver 2, 1, 0
