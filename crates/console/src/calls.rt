@@ -1,15 +1,22 @@
-// The board's calls. What came back of each is one line: what was given, the number in words, and
+// The board's calls. What came back of each is one line: what was typed, the number in words, and
 // the record after it.
 use crate::answers;
 use crate::session::Session;
 use crate::session::with_state;
 use crate::show::say_after;
+use crate::texts::BYTE;
+use crate::texts::COLON;
+use crate::texts::DOTS;
+use crate::texts::MORE;
+use crate::texts::UNREAD;
+use crate::texts::tell_one;
+use crate::texts::tell_plain;
+use crate::texts::tell_three;
 use state::State;
 use terminal::plus;
-use terminal::say;
 use terminal::say_bytes;
-use terminal::say_form;
 use terminal::say_shown;
+use terminal::wide;
 use terminal::within;
 
 // The most of a line, and the most bytes, that stand before what came back.
@@ -17,32 +24,94 @@ const LABEL: usize = 30;
 
 const FEW: usize = 8;
 
+// What came back of a call, its answer at the start of the bytes.
+pub struct Came {
+    pub state: State,
+    pub number: u8,
+    pub read: usize,
+    pub length: usize,
+    pub bytes: [u8; 1024],
+}
+
 // A session after some bytes of those to give.
 struct Fed {
     session: Session,
     read: usize,
 }
 
-// What a person typed, or its beginning.
-fn say_label(label: &[u8]) -> usize {
-    if label.len() <= LABEL {
-        say_shown(label);
-        return label.len();
+fn not_read(session: Session) -> Came {
+    let state = session.state;
+    Came {
+        state,
+        number: 9,
+        read: 0,
+        length: 0,
+        bytes: [0u8; 1024],
     }
-    let n = within(LABEL, label);
-    say_shown(&label[0..n]);
-    plus(n, say(b" .."))
 }
 
-// Bytes, or the first of them and how many they are.
-fn say_some(bytes: &[u8]) -> usize {
-    if bytes.len() <= FEW {
-        return say_bytes(bytes);
+// A run over the bytes from one place to another.
+pub fn take(session: Session, given: [u8; 512], from: usize, to: usize) -> Came {
+    let mut bytes = [0u8; 1024];
+    let lent: &mut [u8] = &mut bytes;
+    let room = within(session.room, lent);
+    let image = session.image;
+    let state = session.state;
+    let end = within(to, &given);
+    if from > end {
+        return not_read(session);
     }
-    let n = within(FEW, bytes);
-    let first = say_bytes(&bytes[0..n]);
-    let count = say_form(b" .. (%0 bytes)", [bytes.len(), 0, 0, 0, 0, 0, 0, 0]);
-    plus(first, count)
+    let ran = board::run(state, &given[from..end], &image, &mut lent[0..room]);
+    let after = ran.state;
+    Came {
+        state: after,
+        number: ran.number,
+        read: ran.read,
+        length: ran.length,
+        bytes,
+    }
+}
+
+fn take_tick(session: Session) -> Came {
+    let mut bytes = [0u8; 1024];
+    let lent: &mut [u8] = &mut bytes;
+    let room = within(session.room, lent);
+    let image = session.image;
+    let state = session.state;
+    let answer = board::tick(state, &image, &mut lent[0..room]);
+    let after = answer.state;
+    Came {
+        state: after,
+        number: answer.number,
+        read: 0,
+        length: answer.length,
+        bytes,
+    }
+}
+
+// What a person typed, or its beginning.
+fn say_label(session: Session) -> usize {
+    let typed = session.typed;
+    let n = within(session.size, &typed);
+    say_shown(&typed[0..n]);
+    if session.size <= LABEL {
+        return n;
+    }
+    plus(n, tell_plain(DOTS))
+}
+
+// Some bytes, or the first of them and how many they are.
+fn say_some(given: [u8; 512], from: usize, read: usize) -> usize {
+    let shown = if read <= FEW { read } else { FEW };
+    let end = within(plus(from, shown), &given);
+    if from > end {
+        return 0;
+    }
+    let columns = say_bytes(&given[from..end]);
+    if read <= FEW {
+        return columns;
+    }
+    plus(columns, tell_one(MORE, read))
 }
 
 // While a line is repeated, what gives the same again is counted and not shown: the number, and a
@@ -67,7 +136,7 @@ fn counted(session: Session, after: State) -> Session {
 
 // The number in words, and the record after it.
 fn say_back(session: Session, used: usize, number: u8, after: State) -> Session {
-    let colon = say(b": ");
+    let colon = tell_plain(COLON);
     let meaning = words::say_meaning(number);
     let before = session.state;
     say_after(plus(used, plus(colon, meaning)), before, after);
@@ -76,79 +145,58 @@ fn say_back(session: Session, used: usize, number: u8, after: State) -> Session 
     next
 }
 
-// One byte, shown whatever it gives.
-fn give_byte(session: Session, b: u8) -> Session {
-    let mut buffer = [0u8; 1024];
-    let lent: &mut [u8] = &mut buffer;
-    let room = within(session.room, lent);
-    let image = session.image;
-    let state = session.state;
-    let answer = board::byte(state, b, &image, &mut lent[0..room]);
-    let after = answer.state;
-    let used = say_form(b"byte %0", [terminal::wide(b), 0, 0, 0, 0, 0, 0, 0]);
-    let partial = state.partial;
-    let next = say_back(session, used, answer.number, after);
-    answers::say_answer(session.raw, partial, &[b], lent, answer.length);
-    next
-}
-
-fn give_each(session: Session, bytes: &[u8]) -> Session {
-    let mut now = session;
-    let mut i = 0;
-    while i < bytes.len() {
-        now = give_byte(now, bytes[i]);
-        i += 1;
+// A call that answers with no bytes.
+fn told(session: Session, number: u8, after: State) -> Session {
+    if is_same(session, number, after) {
+        return counted(session, after);
     }
-    now
+    say_back(session, say_label(session), number, after)
 }
 
-// The bytes of a frame are named by what was typed where they are all that was.
-fn say_fed(label: &[u8], bytes: &[u8], whole: bool) -> usize {
-    if whole && label.len() > 0 {
-        return say_label(label);
+// The bytes that were read: each alone; by what was typed, where they are all of it; or as numbers.
+fn say_fed(session: Session, given: [u8; 512], from: usize, read: usize, whole: bool) -> usize {
+    if session.verbose && from < 512 {
+        return tell_one(BYTE, wide(given[from]));
     }
-    say_some(bytes)
+    if whole {
+        return say_label(session);
+    }
+    say_some(given, from, read)
 }
 
-// A run over the bytes from a place on: up to the end of the first frame.
-fn give_frame(session: Session, label: &[u8], bytes: &[u8], from: usize) -> Fed {
-    let mut buffer = [0u8; 1024];
-    let lent: &mut [u8] = &mut buffer;
-    let room = within(session.room, lent);
-    let image = session.image;
-    let state = session.state;
-    let at = within(from, bytes);
-    let ran = board::run(state, &bytes[at..], &image, &mut lent[0..room]);
-    let after = ran.state;
-    let read = ran.read;
-    if ran.length == 0 && is_same(session, ran.number, after) {
+fn give_part(session: Session, given: [u8; 512], from: usize, to: usize, count: usize) -> Fed {
+    let came = take(session, given, from, to);
+    let after = came.state;
+    let read = came.read;
+    if came.length == 0 && is_same(session, came.number, after) {
         return Fed {
             session: counted(session, after),
             read,
         };
     }
-    let fed = within(read, &bytes[at..]);
-    let rest = &bytes[at..];
-    let used = say_fed(label, &rest[0..fed], fed == bytes.len());
+    let used = say_fed(session, given, from, read, read == count);
+    let next = say_back(session, used, came.number, after);
+    let state = session.state;
     let partial = state.partial;
-    let next = say_back(session, used, ran.number, after);
-    answers::say_answer(session.raw, partial, &rest[0..fed], lent, ran.length);
+    answers::say_answer(session.raw, partial, given, from, came);
     Fed {
         session: next,
         read,
     }
 }
 
-// All frames of some bytes; of a bad record none is read.
-fn give_frames(session: Session, label: &[u8], bytes: &[u8]) -> Session {
+// All frames of some bytes, one frame at a time or one byte; by the board's laws that comes to the
+// same. Of a bad record nothing is read.
+pub fn give_bytes(session: Session, given: [u8; 512], count: usize) -> Session {
     let mut now = session;
     let mut at = 0;
-    let mut turns = bytes.len();
+    let mut turns: usize = 512;
     while turns > 0 {
-        if at >= bytes.len() {
+        if at >= count {
             break;
         }
-        let fed = give_frame(now, label, bytes, at);
+        let to = if session.verbose { plus(at, 1) } else { count };
+        let fed = give_part(now, given, at, to, count);
         now = fed.session;
         if fed.read == 0 {
             break;
@@ -159,76 +207,48 @@ fn give_frames(session: Session, label: &[u8], bytes: &[u8]) -> Session {
     now
 }
 
-// Bytes, one at a time or a frame at a time; by the board's laws the two come to the same.
-pub fn give_bytes(session: Session, label: &[u8], bytes: &[u8]) -> Session {
-    if session.verbose {
-        return give_each(session, bytes);
+fn say_unread(read: usize, count: usize) {
+    if read < count {
+        tell_three(UNREAD, read, count, count - read);
     }
-    give_frames(session, label, bytes)
 }
 
 // One run: what it leaves unread is told.
-pub fn give_run(session: Session, label: &[u8], bytes: &[u8]) -> Session {
-    let mut buffer = [0u8; 1024];
-    let lent: &mut [u8] = &mut buffer;
-    let room = within(session.room, lent);
-    let image = session.image;
+pub fn give_run(session: Session, given: [u8; 512], count: usize) -> Session {
+    let came = take(session, given, 0, count);
+    let after = came.state;
+    let used = say_label(session);
+    let next = say_back(session, used, came.number, after);
+    say_unread(came.read, count);
     let state = session.state;
-    let ran = board::run(state, bytes, &image, &mut lent[0..room]);
-    let after = ran.state;
-    let used = say_label(label);
     let partial = state.partial;
-    let next = say_back(session, used, ran.number, after);
-    let read = within(ran.read, bytes);
-    if read < bytes.len() {
-        say_form(
-            b"    %0 of %1 bytes read, %2 left unread\n",
-            [read, bytes.len(), bytes.len() - read, 0, 0, 0, 0, 0],
-        );
-    }
-    answers::say_answer(session.raw, partial, &bytes[0..read], lent, ran.length);
+    answers::say_answer(session.raw, partial, given, 0, came);
     next
 }
 
-pub fn give_report(
-    session: Session,
-    label: &[u8],
-    drop: bool,
-    cliff: bool,
-    charger: bool,
-) -> Session {
+pub fn give_report(session: Session, drop: bool, cliff: bool, charger: bool) -> Session {
     let state = session.state;
     let answer = board::safety_report(state, drop, cliff, charger);
     let after = answer.state;
-    if is_same(session, answer.number, after) {
-        return counted(session, after);
-    }
-    say_back(session, say_label(label), answer.number, after)
-}
-
-pub fn give_tick(session: Session) -> Session {
-    let mut buffer = [0u8; 1024];
-    let lent: &mut [u8] = &mut buffer;
-    let room = within(session.room, lent);
-    let image = session.image;
-    let state = session.state;
-    let answer = board::tick(state, &image, &mut lent[0..room]);
-    let after = answer.state;
-    if answer.length == 0 && is_same(session, answer.number, after) {
-        return counted(session, after);
-    }
-    let next = say_back(session, say(b"tick"), answer.number, after);
-    let stream = state.stream;
-    answers::say_chunk(session.raw, stream, lent, answer.length);
-    next
+    told(session, answer.number, after)
 }
 
 pub fn give_song_end(session: Session) -> Session {
     let state = session.state;
     let answer = board::song_end(state);
     let after = answer.state;
-    if is_same(session, answer.number, after) {
-        return counted(session, after);
+    told(session, answer.number, after)
+}
+
+pub fn give_tick(session: Session) -> Session {
+    let came = take_tick(session);
+    let after = came.state;
+    let state = session.state;
+    let stream = state.stream;
+    if came.length == 0 {
+        return told(session, came.number, after);
     }
-    say_back(session, say(b"song-end"), answer.number, after)
+    let next = say_back(session, say_label(session), came.number, after);
+    answers::say_chunk(session.raw, stream, came);
+    next
 }

@@ -10,34 +10,47 @@ mod send;
 mod session;
 mod show;
 mod stop;
+mod texts;
 
 use session::Session;
 use terminal::Line;
-use terminal::say;
-use terminal::say_form;
 use terminal::say_shown;
 use terminal::within;
+use texts::ARGUMENT;
+use texts::LONG;
+use texts::NO_INPUT;
+use texts::PROMPT;
+use texts::UNREADABLE;
+use texts::WELCOME;
+use texts::tell_one;
+use texts::tell_plain;
 
 // The most bytes of a line that are read.
 const LONGEST: usize = 4096;
 
 const HASH: u8 = 35;
 
-// Where a line's comment begins, or its end.
-fn comment_at(text: &[u8]) -> usize {
+const BLANK: u8 = 32;
+
+// Where the last word ends that stands before a comment.
+fn words_end(text: &[u8]) -> usize {
+    let mut end = 0;
     let mut i = 0;
     while i < text.len() {
         if text[i] == HASH {
             break;
         }
+        if text[i] > BLANK {
+            end = i + 1;
+        }
         i += 1;
     }
-    i
+    end
 }
 
-// A line without its comment.
+// A line without its comment and the blanks at its end.
 fn take_text(session: Session, text: &[u8]) -> Session {
-    let end = within(comment_at(text), text);
+    let end = within(words_end(text), text);
     perform::read_line(session, &text[0..end])
 }
 
@@ -47,10 +60,7 @@ fn take_line(session: Session, text: &[u8], next: Line) -> Session {
     now.line_number = input.line_number;
     now.bad = false;
     if next.cut {
-        say_form(
-            b"line %0: longer than 4096 bytes, and not read\n",
-            [now.line_number, 0, 0, 0, 0, 0, 0, 0],
-        );
+        tell_one(LONG, now.line_number);
         return now;
     }
     let n = within(next.size, text);
@@ -60,15 +70,15 @@ fn take_line(session: Session, text: &[u8], next: Line) -> Session {
 // Why there is no further line, where a person would not know it.
 fn finish(came: u8, line_number: usize) {
     if came == terminal::FAILED {
-        say(b"standard input cannot be read\n");
+        tell_plain(UNREADABLE);
     } else if line_number == 0 {
-        say(b"no input: nothing was read\n");
+        tell_plain(NO_INPUT);
     }
 }
 
 fn prompt(asks: bool) {
     if asks {
-        say(b"> ");
+        tell_plain(PROMPT);
     }
 }
 
@@ -105,7 +115,7 @@ fn say_argument() {
         return;
     }
     say_shown(&word[..n]);
-    say(b": the console knows no such argument; it reads lines, and `help` lists its words\n");
+    tell_plain(ARGUMENT);
 }
 
 fn main() {
@@ -115,7 +125,7 @@ fn main() {
     }
     let asks = libc::isatty(libc::STDIN_FILENO) == 1;
     if asks {
-        say(b"A board at power-on. `help` lists the words, `quit` ends it.\n");
+        tell_plain(WELCOME);
     }
     read_all(session::opened(), asks);
 }

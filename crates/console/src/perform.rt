@@ -7,13 +7,25 @@ use crate::session::NONE;
 use crate::session::Session;
 use crate::session::failed;
 use crate::session::with_state;
+use crate::session::with_typed;
 use crate::show::one_if;
 use crate::show::say_drive;
 use crate::stop;
+use crate::texts::AGAIN;
+use crate::texts::IMAGE;
+use crate::texts::LINE_END;
+use crate::texts::NO_FLAG;
+use crate::texts::NO_ROOM;
+use crate::texts::NO_TIMES;
+use crate::texts::NO_WORD;
+use crate::texts::POWER_ON;
+use crate::texts::ROOM;
+use crate::texts::SWITCH;
+use crate::texts::tell_one;
+use crate::texts::tell_plain;
+use crate::texts::tell_three;
 use line::Number;
 use terminal::bytes_from;
-use terminal::say;
-use terminal::say_form;
 use terminal::say_shown;
 use terminal::say_wanted;
 use terminal::say_where;
@@ -23,10 +35,21 @@ const MOST_ROOM: usize = 1024;
 
 const MOST_TURNS: usize = 1000;
 
-fn say_bad(session: Session, text: &[u8], place: usize, why: &[u8]) -> Session {
+// A word that is bad, by the place where it stands.
+fn say_bad(session: Session, text: &[u8], start: usize, end: usize, why: usize) -> Session {
+    say_where(session.line_number, start);
+    let to = within(end, text);
+    if start <= to {
+        say_shown(&text[start..to]);
+    }
+    tell_plain(why);
+    failed(session)
+}
+
+// What a word wants, which it has not.
+fn say_wants(session: Session, place: usize, what: usize) -> Session {
     say_where(session.line_number, place);
-    say_shown(text);
-    say(why);
+    tell_plain(what);
     failed(session)
 }
 
@@ -49,7 +72,7 @@ fn read_flag(flags: Flags, word: &[u8]) -> Flags {
     next
 }
 
-fn report(session: Session, text: &[u8], place: usize, from: usize) -> Session {
+fn report(session: Session, text: &[u8], from: usize) -> Session {
     let mut flags = Flags {
         drop: false,
         cliff: false,
@@ -67,20 +90,12 @@ fn report(session: Session, text: &[u8], place: usize, from: usize) -> Session {
         }
         flags = read_flag(flags, &text[start..end]);
         if !flags.ok {
-            let why = b" is none of drop, cliff and charger\n";
-            return say_bad(session, &text[start..end], start, why);
+            return say_bad(session, text, start, end, NO_FLAG);
         }
         at = end;
         turns -= 1;
     }
-    let begin = within(place, text);
-    calls::give_report(
-        session,
-        &text[begin..],
-        flags.drop,
-        flags.cliff,
-        flags.charger,
-    )
+    calls::give_report(session, flags.drop, flags.cliff, flags.charger)
 }
 
 // The number that a word says, and the place after it; above 65535 where it says none.
@@ -109,17 +124,12 @@ fn count_from(text: &[u8], from: usize) -> Count {
 fn set_room(session: Session, text: &[u8], from: usize) -> Session {
     let room = count_from(text, from);
     if room.value > MOST_ROOM {
-        return say_bad(
-            session,
-            b"room",
-            room.start,
-            b" wants a number from 0 to 1024\n",
-        );
+        return say_wants(session, room.start, NO_ROOM);
     }
     if !terminal::ends(text, room.next, session.line_number) {
         return failed(session);
     }
-    say_form(b"room is %0\n", [room.value, 0, 0, 0, 0, 0, 0, 0]);
+    tell_one(ROOM, room.value);
     let mut next = session;
     next.room = room.value;
     next
@@ -146,64 +156,42 @@ fn set_image(session: Session, text: &[u8], from: usize) -> Session {
     }
     let values = bytes.values;
     let image = first_forty(values);
-    say(b"image is set\n");
+    tell_plain(IMAGE);
     let mut next = session;
     next.image = image;
     next
 }
 
 // Bytes, all frames of them, or in one run.
-fn give(session: Session, text: &[u8], place: usize, from: usize, whole: bool) -> Session {
+fn give(session: Session, text: &[u8], from: usize, whole: bool) -> Session {
     let bytes = bytes_from(text, from, session.line_number);
     if !bytes.ok {
         return failed(session);
     }
     let values = bytes.values;
-    let n = within(bytes.count, &values);
     if whole {
-        let begin = within(place, text);
-        return calls::give_run(session, &text[begin..], &values[0..n]);
+        return calls::give_run(session, values, bytes.count);
     }
-    calls::give_bytes(session, b"", &values[0..n])
-}
-
-// A command by name, or a word that is none.
-fn by_name(session: Session, text: &[u8], start: usize, end: usize) -> Session {
-    let begin = within(start, text);
-    let rest = &text[begin..];
-    let n = within(end - start, rest);
-    let op = words::opcode_named(&rest[0..n]);
-    if op == 0 {
-        let why = b" is no word of this console: help lists them\n";
-        return say_bad(session, &rest[0..n], start, why);
-    }
-    send::command(session, op, text, start, end)
+    calls::give_bytes(session, values, bytes.count)
 }
 
 fn power_on(session: Session) -> Session {
     let state = state::power_on();
-    say(b"power-on: ");
+    tell_plain(POWER_ON);
     say_drive(state);
-    say(b"\n");
+    tell_plain(LINE_END);
     with_state(session, state)
 }
 
-fn say_switch(name: &[u8], on: bool) {
-    say(name);
-    say_form(b" is [0 off|on]\n", [one_if(on), 0, 0, 0, 0, 0, 0, 0]);
-}
-
-fn switch(session: Session, kind: usize) -> Session {
+// Each is undone by saying it again.
+fn switch(session: Session, raw: bool) -> Session {
     let mut next = session;
-    match kind {
-        8 => {
-            next.verbose = !session.verbose;
-            say_switch(b"verbose", next.verbose);
-        }
-        _ => {
-            next.raw = !session.raw;
-            say_switch(b"raw", next.raw);
-        }
+    if raw {
+        next.raw = !session.raw;
+        tell_three(SWITCH, 1, one_if(next.raw), 0);
+    } else {
+        next.verbose = !session.verbose;
+        tell_three(SWITCH, 0, one_if(next.verbose), 0);
     }
     next
 }
@@ -228,7 +216,7 @@ fn alone(session: Session, kind: usize) -> Session {
             help::say_help();
             session
         }
-        8 | 9 => switch(session, kind),
+        8 | 9 => switch(session, kind == 9),
         _ => {
             let mut next = session;
             next.over = true;
@@ -237,20 +225,24 @@ fn alone(session: Session, kind: usize) -> Session {
     }
 }
 
-// A word that takes others after it.
+// A word that takes others after it, or a command's name.
 fn with_words(session: Session, text: &[u8], start: usize, end: usize, kind: usize) -> Session {
     match kind {
-        0 => give(session, text, start, end, false),
-        1 => give(session, text, start, end, true),
-        2 => report(session, text, start, end),
+        0 => give(session, text, end, false),
+        1 => give(session, text, end, true),
+        2 => report(session, text, end),
         3 => set_room(session, text, end),
         4 => set_image(session, text, end),
         5 => record::set(session, text, end),
-        _ => by_name(session, text, start, end),
+        _ => say_bad(session, text, start, end, NO_WORD),
     }
 }
 
 fn by_word(session: Session, text: &[u8], word: &[u8], start: usize, end: usize) -> Session {
+    let op = words::opcode_named(word);
+    if op != 0 {
+        return send::command(session, op, text, start, end);
+    }
     let kind = terminal::which(
         word,
         b"tick song-end power-on stop state accepts? help ? verbose raw quit",
@@ -266,16 +258,17 @@ fn by_word(session: Session, text: &[u8], word: &[u8], start: usize, end: usize)
 }
 
 // A line that begins with a number is bytes, and any other goes by its first word.
-fn one_line(session: Session, text: &[u8], from: usize) -> Session {
+fn one_line(before: Session, text: &[u8], from: usize) -> Session {
     let word = line::next_word(text, from);
     let start = word.start;
     let end = word.end;
     if start == end {
-        return session;
+        return before;
     }
+    let session = with_typed(before, text, start);
     let value = line::signed(&text[start..end]);
     let Number::NotANumber = value else {
-        return give(session, text, start, start, false);
+        return give(session, text, start, false);
     };
     by_word(session, text, &text[start..end], start, end)
 }
@@ -301,19 +294,15 @@ fn repeat_line(session: Session, text: &[u8], from: usize, times: usize) -> Sess
 fn repeat(session: Session, text: &[u8], place: usize, from: usize) -> Session {
     let times = count_from(text, from);
     if times.value == 0 || times.value > MOST_TURNS {
-        return say_bad(
-            session,
-            b"repeat",
-            place,
-            b" wants a number from 1 to 1000\n",
-        );
+        return say_wants(session, place, NO_TIMES);
+    }
+    let word = line::next_word(text, times.next);
+    if word.start == word.end {
+        return say_wants(session, word.start, NO_TIMES);
     }
     let next = repeat_line(session, text, times.next, times.value);
     if next.same > 0 {
-        say_form(
-            b"    and %0 times more the same\n",
-            [next.same, 0, 0, 0, 0, 0, 0, 0],
-        );
+        tell_one(AGAIN, next.same);
     }
     next
 }

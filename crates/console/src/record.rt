@@ -4,6 +4,22 @@ use crate::session::failed;
 use crate::session::with_state;
 use crate::show::one_if;
 use crate::show::say_drive;
+use crate::texts::ACCEPTED;
+use crate::texts::BAD;
+use crate::texts::BAUD;
+use crate::texts::HELD;
+use crate::texts::KEPT_BYTES;
+use crate::texts::LINE_END;
+use crate::texts::LIST;
+use crate::texts::NO_PART;
+use crate::texts::NONE;
+use crate::texts::SET;
+use crate::texts::SONGS;
+use crate::texts::SPACE;
+use crate::texts::tell;
+use crate::texts::tell_one;
+use crate::texts::tell_plain;
+use crate::texts::tell_three;
 use frame::Partial;
 use state::Kept;
 use state::Motors;
@@ -11,7 +27,6 @@ use state::Song;
 use state::Songs;
 use state::State;
 use state::Stream;
-use terminal::say;
 use terminal::say_bytes;
 use terminal::say_form;
 use terminal::say_number;
@@ -43,7 +58,7 @@ pub fn set(session: Session, text: &[u8], from: usize) -> Session {
     let word = line::next_word(text, from);
     if word.start == word.end {
         say_where(session.line_number, from);
-        say(b"set wants the name of a part and its value, as in set mode 2\n");
+        tell_plain(NO_PART);
         return failed(session);
     }
     let state = session.state;
@@ -52,13 +67,9 @@ pub fn set(session: Session, text: &[u8], from: usize) -> Session {
         return failed(session);
     }
     let after = changed.state;
-    let bad = one_if(!state::accepts(after));
-    say_form(
-        b"set: [0 an accepted record|a bad record (accepts? tells why)]; ",
-        [bad, 0, 0, 0, 0, 0, 0, 0],
-    );
+    tell_one(SET, one_if(!state::accepts(after)));
     say_drive(after);
-    say(b"\n");
+    tell_plain(LINE_END);
     with_state(session, after)
 }
 
@@ -92,17 +103,17 @@ fn say_items(broken: [u8; 16]) {
 
 pub fn say_accepts(state: State) {
     if state::accepts(state) {
-        say(b"accepts?: yes\n");
+        tell_plain(ACCEPTED);
         return;
     }
-    say(b"accepts?: no, a bad record, which every call answers with 8:\n");
+    tell_plain(BAD);
     let broken = state::broken(state);
     say_items(broken);
 }
 
 fn say_none(some: bool) {
     if !some {
-        say(b" none");
+        tell_plain(NONE);
     }
 }
 
@@ -112,7 +123,7 @@ fn say_set_songs(table: [Song; 16]) {
     let mut i = 0;
     while i < 16 {
         if table[i].len > 0 {
-            say(b" ");
+            tell_plain(SPACE);
             say_number(i);
             some = true;
         }
@@ -123,12 +134,9 @@ fn say_set_songs(table: [Song; 16]) {
 
 fn say_songs(songs: Songs) {
     let table = songs.table;
-    say_form(
-        b"    song selected %0, playing %1, songs set:",
-        [wide(songs.selected), wide(songs.playing), 0, 0, 0, 0, 0, 0],
-    );
+    tell_three(SONGS, wide(songs.selected), wide(songs.playing), 0);
     say_set_songs(table);
-    say(b"\n");
+    tell_plain(LINE_END);
 }
 
 // The first of some places, which are in use.
@@ -136,26 +144,23 @@ fn say_used(places: &[u8], count: usize) {
     let n = within(count, places);
     say_none(n > 0);
     if n > 0 {
-        say(b" ");
+        tell_plain(SPACE);
     }
     say_bytes(&places[0..n]);
-    say(b"\n");
+    tell_plain(LINE_END);
 }
 
 fn say_stream(stream: Stream) {
     let ids = stream.ids;
-    say_form(
-        b"    streaming %0, stream list:",
-        [wide(stream.on), 0, 0, 0, 0, 0, 0, 0],
-    );
+    tell_one(LIST, wide(stream.on));
     say_used(&ids, wide(stream.count));
 }
 
 fn say_kept(motors: Motors, kept: Kept) {
     let duties = motors.duties;
     let leds = kept.leds;
-    say_form(
-        b"    duties of drivers 0, 1 and 2: %0 %1 %2; LEDs %3 %4 %5; outputs %6\n",
+    tell(
+        KEPT_BYTES,
         [
             wide(duties[0]),
             wide(duties[1]),
@@ -167,18 +172,12 @@ fn say_kept(motors: Motors, kept: Kept) {
             0,
         ],
     );
-    say_form(
-        b"    baud code %0, IR byte %1\n",
-        [wide(kept.baud), wide(kept.ir), 0, 0, 0, 0, 0, 0],
-    );
+    tell_three(BAUD, wide(kept.baud), wide(kept.ir), 0);
 }
 
 fn say_partial(partial: Partial) {
     let bytes = partial.bytes;
-    say_form(
-        b"    %0 bytes held, %1 to come:",
-        [partial.count, partial.remaining, 0, 0, 0, 0, 0, 0],
-    );
+    tell_three(HELD, partial.count, partial.remaining, 0);
     say_used(&bytes, partial.count);
 }
 
@@ -190,7 +189,7 @@ pub fn say_state(state: State) {
     let stream = state.stream;
     let partial = state.partial;
     say_drive(state);
-    say(b"\n");
+    tell_plain(LINE_END);
     say_kept(motors, kept);
     say_songs(songs);
     say_stream(stream);

@@ -2,23 +2,41 @@
 use crate::calls::give_bytes;
 use crate::session::Session;
 use crate::session::failed;
+use crate::texts::LINE_END;
+use crate::texts::REFUSED;
+use crate::texts::WRITES;
+use crate::texts::tell_plain;
 use command::Message;
-use terminal::say;
 use terminal::say_bytes;
 use terminal::say_form;
 use terminal::say_where;
 use terminal::within;
 use words::say_meaning;
 
-// The frame that was written, given to the board.
-fn give_frame(session: Session, label: &[u8], frame: &[u8], length: usize) -> Session {
-    let n = within(length, frame);
-    if session.verbose {
-        say(b"writes ");
-        say_bytes(&frame[0..n]);
-        say(b"\n");
+// A frame as bytes to give.
+fn given_of(frame: [u8; 35]) -> [u8; 512] {
+    let mut given = [0u8; 512];
+    let mut i = 0;
+    while i < 35 {
+        given[i] = frame[i];
+        i += 1;
     }
-    give_bytes(session, label, &frame[0..n])
+    given
+}
+
+fn say_frame(frame: [u8; 35], length: usize) {
+    let n = within(length, &frame);
+    tell_plain(WRITES);
+    say_bytes(&frame[0..n]);
+    tell_plain(LINE_END);
+}
+
+// The frame that was written, given to the board.
+fn give_frame(session: Session, frame: [u8; 35], length: usize) -> Session {
+    if session.verbose {
+        say_frame(frame, length);
+    }
+    give_bytes(session, given_of(frame), length)
 }
 
 // The place in the form below of what the writer takes.
@@ -42,7 +60,7 @@ fn legal_of(op: u8) -> usize {
 // What the writer would take, for the commands of which it refuses something.
 fn say_refused(line_number: usize, place: usize, op: u8, number: u8) {
     say_where(line_number, place);
-    say(b"the writer refuses it: ");
+    tell_plain(REFUSED);
     say_meaning(number);
     say_form(
         b";\n    legal: [0 0 to 11|-1 to 9|\
@@ -56,15 +74,14 @@ fn say_refused(line_number: usize, place: usize, op: u8, number: u8) {
 }
 
 // What the writer refuses is said.
-fn write(session: Session, label: &[u8], op: u8, message: Message, place: usize) -> Session {
+fn write(session: Session, op: u8, message: Message, place: usize) -> Session {
     let mut frame = [0u8; 35];
-    let lent: &mut [u8] = &mut frame;
-    let sent = command::write(message, lent);
+    let sent = command::write(message, &mut frame);
     if sent.number != 0 {
         say_refused(session.line_number, place, op, sent.number);
         return failed(session);
     }
-    give_frame(session, label, lent, sent.length)
+    give_frame(session, frame, sent.length)
 }
 
 // The command of an opcode with the values from a place to the line's end.
@@ -74,6 +91,5 @@ pub fn command(session: Session, op: u8, text: &[u8], place: usize, from: usize)
         return failed(session);
     }
     let message = typed.message;
-    let start = within(place, text);
-    write(session, &text[start..], op, message, place)
+    write(session, op, message, place)
 }

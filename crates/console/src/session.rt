@@ -7,6 +7,9 @@ pub struct Session {
     pub image: [u8; 40],
     pub room: usize,
     pub line_number: usize,
+    // What was typed, or its beginning, and how long it is.
+    pub typed: [u8; 32],
+    pub size: usize,
     // Every byte is shown; answers are shown as bytes.
     pub verbose: bool,
     pub raw: bool,
@@ -31,6 +34,8 @@ pub fn opened() -> Session {
         image: [0u8; 40],
         room: FIRST_ROOM,
         line_number: 0,
+        typed: [0u8; 32],
+        size: 0,
         verbose: false,
         raw: false,
         bad: false,
@@ -50,5 +55,27 @@ pub fn with_state(session: Session, state: State) -> Session {
 pub fn failed(session: Session) -> Session {
     let mut next = session;
     next.bad = true;
+    next
+}
+
+// The words that are read from here on, as far as they fit.
+pub fn with_typed(session: Session, text: &[u8], from: usize) -> Session {
+    let mut typed = [0u8; 32];
+    let mut at = from;
+    let mut i = 0;
+    while i < 32 {
+        if at < text.len() {
+            typed[i] = text[at];
+            at += 1;
+        }
+        i += 1;
+    }
+    let mut next = session;
+    next.typed = typed;
+    next.size = if from < text.len() {
+        text.len() - from
+    } else {
+        0
+    };
     next
 }

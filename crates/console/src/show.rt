@@ -1,19 +1,39 @@
 // What is said of a record, within 100 columns: the mode and the wheels, and of the rest what a
 // call has changed. Columns go in, those of the line so far, and come back.
+use crate::texts::DUTIES;
+use crate::texts::HALF_READ;
+use crate::texts::JOIN;
+use crate::texts::JOIN_BELOW;
+use crate::texts::KEPT;
+use crate::texts::LEDS;
+use crate::texts::LINE_END;
+use crate::texts::PLAYING;
+use crate::texts::SONG;
+use crate::texts::SPEEDS;
+use crate::texts::STREAMING;
+use crate::texts::THEN;
+use crate::texts::THEN_BELOW;
+use crate::texts::WHEELS;
+use crate::texts::tell;
+use crate::texts::tell_plain;
+use crate::texts::tell_three;
 use frame::Partial;
 use state::Kept;
 use state::Motors;
+use state::Song;
 use state::Songs;
 use state::State;
 use state::Stream;
 use terminal::bits;
 use terminal::plus;
-use terminal::say;
-use terminal::say_form;
 use terminal::wide;
 
 // Where what is said next may not fit, it goes to a line of its own.
 const LATE: usize = 66;
+
+const LATE_NUMBER: usize = 44;
+
+const BELOW: usize = 4;
 
 fn at_most(n: usize, most: usize) -> usize {
     if n <= most { n } else { most }
@@ -26,19 +46,19 @@ pub fn one_if(is: bool) -> usize {
 // Before the next part.
 fn lead(used: usize) -> usize {
     if used > LATE {
-        say(b",\n    ");
-        return 4;
+        tell_plain(JOIN_BELOW);
+        return BELOW;
     }
-    plus(used, say(b", "))
+    plus(used, tell_plain(JOIN))
 }
 
 // Between a number's words and the record.
 fn after_number(used: usize) -> usize {
-    if used > 44 {
-        say(b";\n    ");
-        return 4;
+    if used > LATE_NUMBER {
+        tell_plain(THEN_BELOW);
+        return BELOW;
     }
-    plus(used, say(b"; "))
+    plus(used, tell_plain(THEN))
 }
 
 // How the speeds that the wheels are given are shown; an order of the board's own always has them.
@@ -55,55 +75,30 @@ fn speeds_shown(order: u8, number: u8, capped: bool) -> usize {
 fn say_speeds(motors: Motors) -> usize {
     let speeds = drive::wheel_speeds(motors.order, motors.first, motors.second);
     let shown = speeds_shown(motors.order, speeds.number, speeds.capped);
-    say_form(
-        b"[0 | (no speeds)| (right ~1, left ~2)| (right ~1, left ~2, capped)]",
-        [shown, bits(speeds.right), bits(speeds.left), 0, 0, 0, 0, 0],
-    )
+    tell_three(SPEEDS, shown, bits(speeds.right), bits(speeds.left))
 }
 
 // The mode and the wheels.
 pub fn say_drive(state: State) -> usize {
     let motors = state.motors;
     let order = wide(motors.order);
+    let first = bits(motors.first);
+    let second = bits(motors.second);
     let mode = words::say_mode(state.mode);
-    let wheels = say_form(
-        b", [0 wheels stopped|drive ~1 ~2|direct ~1 ~2|no such order (%3)]",
-        [
-            at_most(order, 3),
-            bits(motors.first),
-            bits(motors.second),
-            order,
-            0,
-            0,
-            0,
-            0,
-        ],
+    let wheels = tell(
+        WHEELS,
+        [at_most(order, 3), first, second, order, 0, 0, 0, 0],
     );
     plus(mode, plus(wheels, say_speeds(motors)))
 }
 
-fn say_duties(used: usize, a: [u8; 3], b: [u8; 3]) -> usize {
-    if wire::same(&a, &b) {
+// Three bytes, under a name.
+fn say_three(used: usize, name: usize, a: [u8; 3], b: [u8; 3]) -> usize {
+    if a[0] == b[0] && (a[1] == b[1] && a[2] == b[2]) {
         return used;
     }
     let at = lead(used);
-    let columns = say_form(
-        b"duties %0 %1 %2",
-        [wide(b[0]), wide(b[1]), wide(b[2]), 0, 0, 0, 0, 0],
-    );
-    plus(at, columns)
-}
-
-fn say_leds(used: usize, a: [u8; 3], b: [u8; 3]) -> usize {
-    if wire::same(&a, &b) {
-        return used;
-    }
-    let at = lead(used);
-    let columns = say_form(
-        b"LEDs %0 %1 %2",
-        [wide(b[0]), wide(b[1]), wide(b[2]), 0, 0, 0, 0, 0],
-    );
-    plus(at, columns)
+    plus(at, tell_three(name, wide(b[0]), wide(b[1]), wide(b[2])))
 }
 
 // A kept byte, named by its place in the form.
@@ -112,17 +107,13 @@ fn say_byte(used: usize, name: usize, a: u8, b: u8) -> usize {
         return used;
     }
     let at = lead(used);
-    let columns = say_form(
-        b"[0 baud code|outputs|IR byte|song selected] %1",
-        [name, wide(b), 0, 0, 0, 0, 0, 0],
-    );
-    plus(at, columns)
+    plus(at, tell_three(KEPT, name, wide(b), 0))
 }
 
 fn say_kept(used: usize, a: Kept, b: Kept) -> usize {
     let before = a.leds;
     let after = b.leds;
-    let leds = say_leds(used, before, after);
+    let leds = say_three(used, LEDS, before, after);
     let baud = say_byte(leds, 0, a.baud, b.baud);
     let outputs = say_byte(baud, 1, a.outputs, b.outputs);
     say_byte(outputs, 2, a.ir, b.ir)
@@ -133,24 +124,22 @@ fn say_playing(used: usize, a: u8, b: u8) -> usize {
         return used;
     }
     let at = lead(used);
-    let columns = say_form(
-        b"[0 not playing|playing|playing is %1]",
-        [at_most(wide(b), 2), wide(b), 0, 0, 0, 0, 0, 0],
-    );
-    plus(at, columns)
+    plus(at, tell_three(PLAYING, at_most(wide(b), 2), wide(b), 0))
 }
 
-// Which songs changed: the number of the first one that did, or 16.
+fn same_song(a: Song, b: Song) -> bool {
+    let before = a.notes;
+    let after = b.notes;
+    a.len == b.len && wire::same(&before, &after)
+}
+
+// The first song that changed, or 16.
 fn changed_song(a: Songs, b: Songs) -> usize {
     let before = a.table;
     let after = b.table;
     let mut i = 0;
     while i < 16 {
-        let x = before[i];
-        let y = after[i];
-        let from = x.notes;
-        let to = y.notes;
-        if x.len != y.len || !wire::same(&from, &to) {
+        if !same_song(before[i], after[i]) {
             break;
         }
         i += 1;
@@ -163,43 +152,24 @@ fn say_song(used: usize, i: usize, songs: Songs) -> usize {
         return used;
     }
     let table = songs.table;
-    let song = table[i];
+    let n = wide(table[i].len);
     let at = lead(used);
-    let columns = say_form(
-        b"song %0 has [1 no notes|a note|%2 notes]",
-        [i, at_most(wide(song.len), 2), wide(song.len), 0, 0, 0, 0, 0],
-    );
-    plus(at, columns)
+    plus(at, tell_three(SONG, i, at_most(n, 2), n))
 }
 
-fn say_songs(used: usize, a: Songs, b: Songs) -> usize {
-    let i = changed_song(a, b);
-    let song = say_song(used, i, b);
-    let selected = say_byte(song, 3, a.selected, b.selected);
-    say_playing(selected, a.playing, b.playing)
+fn same_stream(a: Stream, b: Stream) -> bool {
+    let before = a.ids;
+    let after = b.ids;
+    a.on == b.on && (a.count == b.count && wire::same(&before, &after))
 }
 
 fn say_stream(used: usize, a: Stream, b: Stream) -> usize {
-    let before = a.ids;
-    let after = b.ids;
-    if a.on == b.on && (a.count == b.count && wire::same(&before, &after)) {
+    if same_stream(a, b) {
         return used;
     }
     let at = lead(used);
-    let columns = say_form(
-        b"streaming [0 off|on|is %1], list of %2",
-        [
-            at_most(wide(b.on), 2),
-            wide(b.on),
-            wide(b.count),
-            0,
-            0,
-            0,
-            0,
-            0,
-        ],
-    );
-    plus(at, columns)
+    let on = wide(b.on);
+    plus(at, tell_three(STREAMING, at_most(on, 2), on, wide(b.count)))
 }
 
 fn say_partial(used: usize, partial: Partial) -> usize {
@@ -207,20 +177,17 @@ fn say_partial(used: usize, partial: Partial) -> usize {
         return used;
     }
     let at = lead(used);
-    let columns = say_form(
-        b"half read: %0 held[1 |, %2 to come]",
-        [
-            partial.count,
-            one_if(partial.remaining > 0),
-            partial.remaining,
-            0,
-            0,
-            0,
-            0,
-            0,
-        ],
-    );
-    plus(at, columns)
+    let more = one_if(partial.remaining > 0);
+    plus(
+        at,
+        tell_three(HALF_READ, partial.count, more, partial.remaining),
+    )
+}
+
+fn say_songs(used: usize, a: Songs, b: Songs) -> usize {
+    let song = say_song(used, changed_song(a, b), b);
+    let selected = say_byte(song, 3, a.selected, b.selected);
+    say_playing(selected, a.playing, b.playing)
 }
 
 // The rest of the record, as far as it has changed; and how much of a frame is half read.
@@ -229,7 +196,7 @@ fn say_changes(used: usize, before: State, after: State) -> usize {
     let new = after.motors;
     let from = old.duties;
     let to = new.duties;
-    let duties = say_duties(used, from, to);
+    let duties = say_three(used, DUTIES, from, to);
     let kept_before = before.kept;
     let kept = after.kept;
     let bytes = say_kept(duties, kept_before, kept);
@@ -248,5 +215,5 @@ pub fn say_after(used: usize, before: State, after: State) {
     let at = after_number(used);
     let drive = say_drive(after);
     say_changes(plus(at, drive), before, after);
-    say(b"\n");
+    tell_plain(LINE_END);
 }

@@ -162,17 +162,39 @@ fn plain(form: Form, b: u8) -> Form {
     form
 }
 
+fn stepped(form: Form, b: u8, values: [usize; 8]) -> Form {
+    if form.mark == 0 {
+        return plain(form, b);
+    }
+    after_mark(form, b, values)
+}
+
 // The columns that the form took, as `say` gives them.
 pub fn say_form(form: &[u8], values: [usize; 8]) -> usize {
     let mut now = begun();
     let mut i = 0;
     while i < form.len() {
-        let b = form[i];
-        now = if now.mark == 0 {
-            plain(now, b)
-        } else {
-            after_mark(now, b, values)
-        };
+        now = stepped(now, form[i], values);
+        i += 1;
+    }
+    let last = flushed(now);
+    last.written
+}
+
+// One form of a table of them, each behind an @, counted from 0. A program's texts are so in one
+// place, and to say one of them is a call that lends nothing, which is cheap to check.
+pub fn say_entry(table: &[u8], entry: usize, values: [usize; 8]) -> usize {
+    let wanted = plus(entry, 1);
+    let mut now = begun();
+    let mut at = 0;
+    let mut i = 0;
+    while i < table.len() {
+        let b = table[i];
+        if b == b'@' {
+            at = plus(at, 1);
+        } else if at == wanted {
+            now = stepped(now, b, values);
+        }
         i += 1;
     }
     let last = flushed(now);

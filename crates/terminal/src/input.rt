@@ -1,4 +1,5 @@
-// Standard input, line by line. A block is read once the one before it is used up; what comes may be less than a block, as a person types.
+// Standard input, line by line. A block is read once the one before it is used up; what comes may
+// be less than a block, as a person types.
 ghost use mathlib.Core.Path.{_≡_};
 ghost use Prim.Native.Nat.{_≤_};
 ghost use lib.ListN.{length};
@@ -11,7 +12,8 @@ pub const END: u8 = 1;
 
 pub const FAILED: u8 = 2;
 
-// A block, the place in it of the next byte and after its last one, the number of the last line, and whether there is more.
+// A block, the place in it of the next byte and after its last one, the number of the last line,
+// and whether there is more.
 pub struct Input {
     pub block: [u8; 4096],
     pub from: usize,
@@ -20,7 +22,8 @@ pub struct Input {
     pub over: u8,
 }
 
-// A line: its bytes are the first `size` of the line lent; `cut` where more did not fit and were passed over.
+// A line: its bytes are the first `size` of the line lent; `cut` where more did not fit and were
+// passed over.
 pub struct Line {
     pub input: Input,
     pub size: usize,
@@ -102,8 +105,8 @@ fn last_line(input: Input, size: usize, cut: bool) -> Line
     }
 }
 
-// The next line, without its newline; the last one may lack it. A proved loop has to end, and nothing says that a line does: the turns count down from a
-// number that no run uses up.
+// The next line, without its newline; the last one may lack it. A proved loop has to end, and
+// nothing says that a line does: the turns count down from a number that no run uses up.
 pub fn next_line(input: Input, line: &mut [u8]) -> Line
     ensures { λ r. ⌜ (r .size ≤ length (now (line .exit))) × (length (now (line .exit)) ≡ length (now (line .entry))) ⌝ }
 {

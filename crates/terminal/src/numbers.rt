@@ -1,16 +1,17 @@
 // The numbers of a line, and what is said of bad ones: the line, the place, and what was wrong.
 ghost use Prim.Native.Nat.{_≤_};
+use crate::form::say_form;
 use crate::output::plus;
 use crate::output::say;
-use crate::output::say_number;
 use crate::output::say_shown;
-use crate::output::say_where;
+use crate::output::wide;
 use line::Number;
 
 // The most numbers of a line.
 pub const MOST: usize = 512;
 
-// Numbers from 0 to 255, in the first places; not ok where one of them was bad, and then it has been said.
+// Numbers from 0 to 255, in the first places; not ok where one of them was bad, and then it has
+// been said.
 pub struct Bytes {
     pub values: [u8; 512],
     pub count: usize,
@@ -60,14 +61,20 @@ fn check_byte(word: &[u8]) -> Checked {
     }
 }
 
+// The start of a message: where a person finds what was wrong. Places are counted from 1.
+pub fn say_where(line_number: usize, place: usize) {
+    say_form(
+        b"line %0: place %1: ",
+        [line_number, plus(place, 1), 0, 0, 0, 0, 0, 0],
+    );
+}
+
 fn say_fault(word: &[u8], fault: u8) {
     say_shown(word);
-    match fault {
-        NO_NUMBER => say(b" is not a number from 0 to 255\n"),
-        TOO_LARGE => say(b" is above 255\n"),
-        _ => say(b" is below 0\n"),
-    }
-    ;
+    say_form(
+        b"[0 | is not a number from 0 to 255| is above 255| is below 0]\n",
+        [wide(fault), 0, 0, 0, 0, 0, 0, 0],
+    );
 }
 
 // The numbers from a place to the text's end, 512 at most; one word more is told.
@@ -109,11 +116,10 @@ pub fn bytes_from(text: &[u8], from: usize, line_number: usize) -> Bytes
 // What is said of too many numbers or too few.
 pub fn say_wanted(line_number: usize, place: usize, wanted: usize, given: usize) {
     say_where(line_number, place);
-    say(b"numbers wanted: ");
-    say_number(wanted);
-    say(b", given: ");
-    say_number(given);
-    say(b"\n");
+    say_form(
+        b"numbers wanted: %0, given: %1\n",
+        [wanted, given, 0, 0, 0, 0, 0, 0],
+    );
 }
 
 // The sixteen bits of a number with a sign, from -(most + 1) to most; 65536 for any other word.
@@ -134,7 +140,18 @@ fn bits_of(word: &[u8], most: usize) -> usize {
     }
 }
 
-// A number with a sign, from a place on. Its width has the numbers from -(most + 1) to most, sixteen bits at the widest.
+// A word that is no number of a width, or none.
+fn say_not_signed(word: &[u8], most: usize) {
+    say_shown(word);
+    let missing = if word.len() == 0 { 1 } else { 0 };
+    say_form(
+        b"[0  is not a number from -%1 to %2|a number is missing]\n",
+        [missing, plus(most, 1), most, 0, 0, 0, 0, 0],
+    );
+}
+
+// A number with a sign, from a place on. Its width has the numbers from -(most + 1) to most,
+// sixteen bits at the widest.
 pub fn signed_from(text: &[u8], from: usize, line_number: usize, most: usize) -> Signed {
     let word = line::next_word(text, from);
     let start = word.start;
@@ -149,16 +166,7 @@ pub fn signed_from(text: &[u8], from: usize, line_number: usize, most: usize) ->
         };
     }
     say_where(line_number, start);
-    if start == end {
-        say(b"a number is missing\n");
-    } else {
-        say_shown(&text[start..end]);
-        say(b" is not a number from -");
-        say_number(plus(most, 1));
-        say(b" to ");
-        say_number(most);
-        say(b"\n");
-    }
+    say_not_signed(&text[start..end], most);
     Signed {
         value: 0,
         next: end,

@@ -1,16 +1,19 @@
-// Text to standard output. What writes gives back how many columns it took, so that a table can be laid out.
+// Text to standard output. What writes gives back how many columns it took, so that a table can be
+// laid out.
 ghost use mathlib.Core.Path.{_≡_};
 ghost use Prim.Native.Nat.{_≤_, _<_};
 ghost use lib.ListN.{length};
 use libc::STDERR_FILENO;
 use libc::STDOUT_FILENO;
 
-// Text as it is. Output that cannot be written is told where it still may be seen.
+// Text as it is. Output that cannot be written is told once, where it still may be seen: standard
+// error is closed behind it, so that a later failure has nowhere to go.
 pub fn say(text: &[u8]) -> usize
     ensures { λ r. ⌜ r ≡ length (now (text .entry)) ⌝ }
 {
     if !io::write_all(STDOUT_FILENO, text) {
         io::write_all(STDERR_FILENO, b"standard output cannot be written\n");
+        libc::close(STDERR_FILENO);
     }
     text.len()
 }
@@ -94,15 +97,6 @@ pub fn pad(used: usize, width: usize) {
         say(b" ");
         at += 1;
     }
-}
-
-// The start of a message: where a person finds what was wrong. Places are counted from 1.
-pub fn say_where(line_number: usize, place: usize) {
-    say(b"line ");
-    say_number(line_number);
-    say(b": place ");
-    say_number(plus(place, 1));
-    say(b": ");
 }
 
 // No more than there is, so that a caller may lend `&text[0..r]`.

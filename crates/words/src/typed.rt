@@ -1,5 +1,5 @@
-// A command as a person types it, by its name and its values: drive 200 500, song 0 60 32 64 32, stream 29 13. Its values need not be legal: the writer of
-// commands is there to refuse them.
+// A command as a person types it, by its name and its values: drive 200 500, song 0 60 32 64 32,
+// stream 29 13. Its values need not be legal: the writer of commands is there to refuse them.
 use command::Message;
 use frame::Length;
 use line::Number;
@@ -36,8 +36,9 @@ fn byte_of(word: &[u8]) -> u8 {
 // The opcode of a command's name; 0 for a word that is none.
 pub fn opcode_named(word: &[u8]) -> u8 {
     let table: &[u8] =
-        b"start 128 baud 129 control 130 safe 131 full 132 power 133 demo 136 spot 134 cover 135 dock 143 drive 137 direct 145 drivers 138 \
-        duties 144 leds 139 outputs 147 infrared 151 song 140 play 141 sensors 142 list 149 stream 148 pause 150";
+        b"start 128 baud 129 control 130 safe 131 full 132 power 133 demo 136 spot 134 cover 135 \
+        dock 143 drive 137 direct 145 drivers 138 duties 144 leds 139 outputs 147 infrared 151 \
+        song 140 play 141 sensors 142 list 149 stream 148 pause 150";
     let mut at = 0;
     let mut turns = table.len();
     while turns > 0 {
@@ -82,7 +83,8 @@ fn pair(op: u8, text: &[u8], from: usize, line_number: usize) -> Framed {
     Framed { bytes, ok }
 }
 
-// The numbers from one of them on, behind the first bytes of a frame; those that were not typed are 0.
+// The numbers from one of them on, behind the first bytes of a frame; those that were not typed are
+// 0.
 fn behind(head: [u8; 35], at: usize, values: [u8; 512], from: usize) -> [u8; 35] {
     let mut bytes = head;
     let mut i = from;

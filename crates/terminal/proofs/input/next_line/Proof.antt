@@ -1,5 +1,5 @@
--- `terminal::input::next_line` meets its contract: the line keeps its length, and what is there of it fits. The turns that are left are the measure.
--- Assumes nothing.
+-- `terminal::input::next_line` meets its contract: the line keeps its length, and what is there of
+-- it fits. The turns that are left are the measure. Assumes nothing.
 use mathlib.Core.Path.{_≡_, refl, ap, _∙_}
 use mathlib.Core.List.{List}
 use Prim.Native.Nat.{ℕ, _-_, _≤_}
