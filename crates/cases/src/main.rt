@@ -1,145 +1,128 @@
-// The cases of document 01 and the worked examples of the sources, run through the public calls. The cases are data: the program reads them from standard input
-// and writes a table, one line a case, with where each stands in the papers. What it writes of `stdin` is compared with `stdout`, which was checked by hand
-// against document 01. The language is described at the head of `stdin`; in short:
+// Cases of the rules (docs/RULES.md) and the worked examples of the sources, run through the public
+// calls and compared. They are data: a line of standard input has a case and what is expected of
+// it. The program writes each line with what came back behind it, marks those that differ, and ends
+// with how many lines it compared and how many of them differ.
 //
-//     = TEXT                              a heading; an empty line gives one, and a line that begins with # gives none
-//     widths N N ..                       the columns' widths from here on
-//     record NAME START                   a record by name
-//     case START | CALL | PLACE           one call from a record
-//     frame BYTES | DATA | PLACE          the frame table, in all four modes
-//     held START | NAMED | PLACE          the run table
-//     bad START | START | PLACE           a bad record and its good neighbour
-//     write START | COMMAND | PLACE       the writer, and the board on what it wrote
-//     speeds START | EXACT | PLACE        the wheel speeds of a record's order
+// The language is described at the head of `stdin`. In short, of the lines that are compared:
 //
-// A line that is bad is told, with its number and the place, and gives nothing else.
-mod bad;
-mod call;
-mod cut;
-mod record;
+//     record NAME START | START                            a record by name, the same by hand
+//     frame BYTES | DATA | NUMBERS | RULE                  the frame table, in all four modes
+//     case START | CALL | BACK | START | RULE              one call from a record
+//     held START | BYTE | BACK | START | RULE              the run table
+//     bad START | BACK | START | BACK | RULE               a bad record and its good neighbour
+//     write START | COMMAND | BACK | BACK | START | RULE   the writer, the board on its bytes
+//     speeds START | EXACT | BACK | RULE                   the wheel speeds of a record's order
+mod cases;
+mod fields;
+mod give;
+mod row;
 mod session;
-mod set;
-mod speeds;
 mod start;
-mod table;
-mod write;
 
+use row::Row;
 use session::Session;
-use session::with_state;
-use table::Cells;
 use terminal::say;
-use terminal::say_shown;
-use terminal::say_where;
+use terminal::say_form;
 use terminal::within;
 
 // The most bytes of a line that are read.
 const LONGEST: usize = 1024;
 
-// A line whose first cell is a record.
-fn from_start(session: Session, kind: usize, text: &[u8], cells: Cells) -> Session {
-    let end = within(cells.one, text);
-    let begun = start::start_from(session, &text[0..end], cells.from);
-    let state = begun.state;
-    if !begun.ok {
-        return session;
-    }
-    let widths = session.widths;
+// What a line has that differs from what it expects.
+fn differences(session: Session, row: Row, kind: usize) -> usize {
     match kind {
-        4 => with_state(
-            session,
-            1,
-            call::case(widths, session.line_number, state, text, cells),
-        ),
-        5 => {
-            cut::held(widths, state, text, cells);
-            session
+        row::RECORD => cases::named(row),
+        row::FRAME => cases::frame(session, row),
+        row::CASE => {
+            let call = row.call;
+            cases::case(row, call)
         }
-        6 => {
-            bad::bad(session, state, text, cells);
-            session
-        }
-        7 => with_state(
-            session,
-            1,
-            write::write(widths, session.line_number, state, text, cells),
-        ),
-        _ => {
-            speeds::speeds(widths, state, text, cells);
-            session
-        }
+        row::HELD => cases::held(row),
+        row::BAD => cases::bad(row),
+        row::WRITE => cases::write(row),
+        _ => cases::speeds(row),
     }
 }
 
-fn by_cells(session: Session, kind: usize, text: &[u8], from: usize) -> Session {
-    let cells = table::cells_of(text, from, session.line_number);
-    if !cells.ok {
-        return session;
+// A line that is compared; one that cannot be read counts as one that differs.
+fn compare(session: Session, kind: usize, text: &[u8], from: usize) -> Session {
+    let row = row::row_from(session, kind, text, from);
+    if !row.ok {
+        return session::counted(session, 1);
     }
-    if kind == 3 {
-        return cut::frame(session, text, cells);
+    say(text);
+    let differs = differences(session, row, kind);
+    end_row(differs);
+    let next = session::counted(session, differs);
+    let after = row.after;
+    let then = session::with_state(next, session::THEN, after);
+    if kind != row::RECORD {
+        return then;
     }
-    from_start(session, kind, text, cells)
+    let before = row.before;
+    session::with_name(then, text, from, before)
 }
 
-fn heading(session: Session, text: &[u8], from: usize) -> Session {
-    table::say_words(text, from);
-    say(b"\n");
+fn end_row(differs: usize) {
+    let mark = cases::differ(differs, 0);
+    say_form(b"[0 |  DIFFERS]\n", [mark, 0, 0, 0, 0, 0, 0, 0]);
+}
+
+// A heading, or an empty line.
+fn heading(session: Session, text: &[u8]) -> Session {
+    say(text);
+    end_row(0);
     session
 }
 
-fn unknown(session: Session, word: &[u8], place: usize) -> Session {
-    say_where(session.line_number, place);
-    say_shown(word);
-    say(b" is no kind of line\n");
-    session
-}
-
-// A line by its first word; an empty one and a heading are written as they are.
+// A line by its first word.
 fn take_line(session: Session, text: &[u8]) -> Session {
     let word = line::next_word(text, 0);
     let start = word.start;
     let end = word.end;
-    if start == end {
-        return heading(session, text, end);
-    }
-    if text[start] == 35 {
-        return session;
-    }
     let kind = terminal::which(
         &text[start..end],
-        b"= widths record frame case held bad write speeds",
+        b"# = record frame case held bad write speeds",
     );
     match kind {
-        0 => heading(session, text, end),
-        1 => session::set_widths(session, text, end),
-        2 => session::name_record(session, text, end),
-        3..=8 => by_cells(session, kind, text, end),
-        _ => unknown(session, &text[start..end], start),
+        row::REMARK => session,
+        row::HEADING => heading(session, text),
+        row::RECORD..=row::SPEEDS => compare(session, kind, text, end),
+        _ => other(session, text, end),
     }
+}
+
+// An empty line is written, and any other word is told.
+fn other(session: Session, text: &[u8], end: usize) -> Session {
+    if end == 0 {
+        return heading(session, text);
+    }
+    session::faulty(session, 0, session::NO_KIND)
 }
 
 fn told(session: Session, text: &[u8], size: usize, cut: bool, line_number: usize) -> Session {
     let mut next = session;
     next.line_number = line_number;
     if cut {
-        say_where(line_number, LONGEST);
-        say(b"the line is longer than 1024 bytes and was not read\n");
-        return next;
+        return session::faulty(next, LONGEST, session::TOO_LONG);
     }
     let n = within(size, text);
     take_line(next, &text[0..n])
 }
 
-fn finish(came: u8, line_number: usize) {
+// The last line: how many were compared, and how many differ.
+fn finish(session: Session, came: u8) {
     if came == terminal::FAILED {
-        say_where(line_number, 0);
-        say(b"after this line the input could not be read\n");
-    } else if line_number == 0 {
-        say(b"no input: nothing was read\n");
+        session::say_fault(session.line_number, 0, session::NO_INPUT);
     }
+    say_form(
+        b"%0 lines compared, %1 differ\n",
+        [session.lines, session.differ, 0, 0, 0, 0, 0, 0],
+    );
 }
 
-// A proved loop has to end, and nothing says that the input does: the turns count down from a number that no run uses up.
+// A proved loop has to end, and nothing says that the input does: the turns count down from a
+// number that no run uses up.
 fn main() {
     let mut kept = [0u8; LONGEST];
     let text: &mut [u8] = &mut kept;
@@ -150,7 +133,7 @@ fn main() {
         let got = terminal::next_line(input, text);
         input = got.input;
         if got.came != terminal::LINE {
-            finish(got.came, input.line_number);
+            finish(session, got.came);
             break;
         }
         session = told(session, text, got.size, got.cut, input.line_number);

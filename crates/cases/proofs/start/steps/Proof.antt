@@ -5,10 +5,10 @@ use Rattle.cases.proofs.start.steps.Statement.{statement}
 use Rattle.cases.proofs.start.steps.Tie as tie
 
 abbrev Inv-loop : tie.InvT-loop
-Inv-loop text from line_number state₀ at₀ ok₀ turns₀ state at ok turns = Unit {0}
+Inv-loop text line-number now₀ turns₀ now turns = Unit {0}
 
 abbrev μ-loop : tie.MeasureT-loop
-μ-loop text from line_number state₀ at₀ ok₀ turns₀ state at ok turns = turns
+μ-loop text line-number now₀ turns₀ now turns = turns
 
 pub steps-spec : {M : Type 1} → statement M
 steps-spec =
@@ -18,8 +18,6 @@ steps-spec =
     μ-loop
     (λ c. search needs)
     (λ c κs. search needs)
-    (λ c κs. search needs)
-    (λ c. search needs)
     (λ c. search needs)
     (λ c. search needs)
     (λ c. search needs)

@@ -1,13 +1,13 @@
--- `cases::table::bar` is safe and ends.
+-- `cases::row::bar` meets its contract.
 -- Assumes nothing.
-use Prim.Native.Nat.{_-_}
+use Prim.Native.Nat.{_-_, _≤_}
 use lib.ListN.{length}
 use borrow.Author.Needs.{needs}
-use Rattle.cases.proofs.table.bar.Statement.{statement}
-use Rattle.cases.proofs.table.bar.Tie as tie
+use Rattle.cases.proofs.row.bar.Statement.{statement}
+use Rattle.cases.proofs.row.bar.Tie as tie
 
 abbrev Inv-loop : tie.InvT-loop
-Inv-loop text from i₀ i = Unit {0}
+Inv-loop text from i₀ i = i ≤ length text
 
 abbrev μ-loop : tie.MeasureT-loop
 μ-loop text from i₀ i = length text - i
@@ -18,6 +18,7 @@ bar-spec =
     (tie.spec
     Inv-loop
     μ-loop
+    (λ c κs. search needs)
     (λ c. search needs)
     (λ c. search needs)
     (λ c. search needs)

@@ -1,22 +1,25 @@
--- `cases::table::say_words` is safe and ends.
+-- `cases::row::row_from` is safe and ends.
 -- Assumes nothing.
+use Prim.Native.Nat.{_-_}
 use borrow.Author.Needs.{needs}
-use Rattle.cases.proofs.table.say_words.Statement.{statement}
-use Rattle.cases.proofs.table.say_words.Tie as tie
+use Rattle.cases.proofs.row.row_from.Statement.{statement}
+use Rattle.cases.proofs.row.row_from.Tie as tie
 
 abbrev Inv-loop : tie.InvT-loop
-Inv-loop text from used₀ at₀ turns₀ used at turns = Unit {0}
+Inv-loop session kind text from row₀ at₀ i₀ row at i = Unit {0}
 
 abbrev μ-loop : tie.MeasureT-loop
-μ-loop text from used₀ at₀ turns₀ used at turns = turns
+μ-loop session kind text from row₀ at₀ i₀ row at i = 6 - i
 
-pub say-words-spec : {M : Type 1} → statement M
-say-words-spec =
+pub row-from-spec : {M : Type 1} → statement M
+row-from-spec =
     tie.close
     (tie.spec
     Inv-loop
     μ-loop
+    (λ c κs. search needs)
     (λ c. search needs)
+    (λ c κs. search needs)
     (λ c κs. search needs)
     (λ c. search needs)
     (λ c. search needs)
