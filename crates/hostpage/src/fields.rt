@@ -1,40 +1,133 @@
-// The fields of a line: names in braces, and what is written for them. Bytes are written as code, and a dash where there are none; a place and a count after
-// a name of the first three pick some of them, as in {answer 2 3}.
-//     sent     the bytes of the last act                           before   those given before it, since power-on
-//     answer   the bytes that came back                            length   how many they are
-//     value    the last command that had a name, as a value        modes    the modes that it is for
-//     written  the writer's number for it                          room     the length of the buffers that are lent
-//     data     how many data bytes the opcode of `sent` has        number   the number that came back from the last act
-//     was      the mode before the last act                        mode     the mode after it
-//     motors   whether the motors are off                          stop     how many bytes 128 it takes to stop for certain
-//     check    a chunk's bytes but the header, and their sum       rest     what the row has after its bar
-use crate::page::Fault;
+// The fields of a line: names in braces, and what is written for them. Bytes are written as code,
+// and a dash where there are none; a place and a count after a name of the first three pick some of
+// them, as in {answer 2 3}.
+//
+//     sent     the bytes of the last act
+//     before   those given before it, since power-on
+//     answer   the bytes that came back
+//     value    the last command that had a name, as a value
+//     modes    the modes that it is for
+//     hex      the opcode of the last act that gave bytes, in hexadecimal
+//     rest     what the row has after its bar
+//     written  the writer's number for the last command that had a name
+//     number   the number that came back from the last act
+//     length   how many bytes came back
+//     room     the length of the buffers that are lent
+//     stop     the byte of a run of 128s that is read as an opcode
+//     motors   whether the motors are off
+//     was      the mode before the last act
+//     mode     the mode after it
+use crate::page;
 use crate::page::Page;
 use crate::page::find;
 use crate::page::mark;
 use crate::page::say_fault;
 use command::Command;
-use frame::Length;
 use state::State;
 use terminal::bytes_from;
 use terminal::ends;
 use terminal::plus;
 use terminal::say;
 use terminal::say_bytes;
-use terminal::say_joined;
-use terminal::say_number;
+use terminal::say_form;
 use terminal::which;
 use terminal::wide;
 use terminal::within;
 
-fn say_code(bytes: &[u8]) {
-    if bytes.len() == 0 {
+// The fields, by their places among the names: first those that are bytes, last those that are
+// numbers, of which some are shown as words.
+const SENT: usize = 0;
+
+const BEFORE: usize = 1;
+
+const ANSWER: usize = 2;
+
+const VALUE: usize = 3;
+
+const MODES: usize = 4;
+
+const HEX: usize = 5;
+
+const REST: usize = 6;
+
+const WRITTEN: usize = 7;
+
+const NUMBER: usize = 8;
+
+const LENGTH: usize = 9;
+
+const ROOM: usize = 10;
+
+const STOP: usize = 11;
+
+const MOTORS: usize = 12;
+
+const WAS: usize = 13;
+
+const FIELDS: usize = 15;
+
+// The bytes from a place to another, as code.
+fn say_range(bytes: &[u8], from: usize, to: usize) {
+    let end = within(to, bytes);
+    if from >= end {
         mark(b'-');
         return;
     }
     mark(b'`');
-    say_bytes(bytes);
+    say_bytes(&bytes[from..end]);
     mark(b'`');
+}
+
+// A part of them, where a place and a count pick one.
+struct Range {
+    from: usize,
+    to: usize,
+    ok: bool,
+}
+
+fn least(a: usize, b: usize) -> usize {
+    if a < b { a } else { b }
+}
+
+fn picked(from: usize, to: usize, line_number: usize, text: &[u8], at: usize) -> Range {
+    let read = bytes_from(text, at, line_number);
+    let values = read.values;
+    let start = plus(from, wide(values[0]));
+    let size = wide(values[1]);
+    let end = if read.count == 0 {
+        to
+    } else {
+        least(to, plus(start, size))
+    };
+    Range {
+        from: start,
+        to: end,
+        ok: read.ok,
+    }
+}
+
+// The bytes given, or those that came back.
+fn say_part(page: Page, name: usize, range: Range) {
+    let given = page.given;
+    let answer = page.answer;
+    if !range.ok {
+        return;
+    }
+    if name == ANSWER {
+        say_range(&answer, range.from, range.to);
+    } else {
+        say_range(&given, range.from, range.to);
+    }
+}
+
+// The fields that are bytes.
+fn say_listed(page: Page, name: usize, line_number: usize, text: &[u8], at: usize) {
+    let range = match name {
+        SENT => picked(page.from, page.end, line_number, text, at),
+        BEFORE => picked(0, page.from, line_number, text, at),
+        _ => picked(0, page.length, line_number, text, at),
+    };
+    say_part(page, name, range);
 }
 
 fn say_command(page: Page) {
@@ -42,195 +135,121 @@ fn say_command(page: Page) {
         mark(b'-');
         return;
     }
-    let message = page.message;
+    let frame = page.frame;
     mark(b'`');
-    words::say_value(message);
+    words::say_value(frame);
     mark(b'`');
 }
 
-// A mode's name, if the command is for it; whether one was named by now.
-fn say_allowed(command: Command, mode: u8, before: bool) -> bool {
+// Whether a command is for a mode: 0 if not, and else 1 for the first such mode and 2 for another.
+fn place_of(command: Command, mode: u8, before: usize) -> usize {
     if !command::allowed(command, mode) {
-        return before;
+        return 0;
     }
-    if before {
-        say(b", ");
-    }
-    words::say_mode(mode);
-    true
+    if before == 0 { 1 } else { 2 }
 }
 
 fn say_modes(page: Page) {
     let message = page.message;
     let command = message.command;
-    let off = say_allowed(command, command::OFF, false);
-    let passive = say_allowed(command, command::PASSIVE, off);
-    let safe = say_allowed(command, command::SAFE, passive);
-    say_allowed(command, command::FULL, safe);
+    let off = place_of(command, command::OFF, 0);
+    let passive = place_of(command, command::PASSIVE, off);
+    let safe = place_of(command, command::SAFE, plus(off, passive));
+    let full = place_of(command, command::FULL, plus(off, plus(passive, safe)));
+    say_form(
+        b"[0 |Off|, Off][1 |Passive|, Passive][2 |Safe|, Safe][3 |Full|, Full]",
+        [off, passive, safe, full, 0, 0, 0, 0],
+    );
 }
 
-// The first byte of the last act; 0 where it gave none.
-fn opcode(page: Page) -> u8 {
-    let given = page.given;
-    let from = page.from;
-    if from < 512 && from < page.end {
-        given[from]
-    } else {
-        0
-    }
-}
-
-fn say_data(op: u8) -> usize {
-    let length = frame::data_length(op);
-    match length {
-        Length::Fixed(n) => say_number(n),
-        Length::Counted => say(b"1 + N, N the first of them"),
-        Length::Song => say(b"2 + 2L, L the second of them"),
-        Length::Unknown => say(b"0"),
-    }
-}
-
-// As many bytes from a place on.
-fn say_part(bytes: &[u8], from: usize, size: usize) {
-    let start = within(from, bytes);
-    let tail = &bytes[start..];
-    let n = within(size, tail);
-    say_code(&tail[0..n]);
-}
-
-// Bytes, or those of them that a place and a count pick.
-fn say_picked(bytes: &[u8], line_number: usize, text: &[u8], from: usize) {
-    let read = bytes_from(text, from, line_number);
-    if !read.ok {
-        return;
-    }
-    if read.count == 0 {
-        say_code(bytes);
-        return;
-    }
-    let values = read.values;
-    say_part(bytes, wide(values[0]), wide(values[1]));
-}
-
-fn sum(bytes: &[u8]) -> usize {
-    let mut total = 0;
-    let mut i = 0;
-    while i < bytes.len() {
-        total = plus(total, wide(bytes[i]));
-        i += 1;
-    }
-    total
-}
-
-// What makes a chunk good: all bytes but the header, with their sum.
-fn say_check(chunk: &[u8]) {
-    let start = within(1, chunk);
-    let checked = &chunk[start..];
-    say_joined(checked, b" + ");
-    say(b" = ");
-    say_number(sum(checked));
-}
-
-// The fields that are bytes.
-fn say_listed(page: Page, name: usize, line_number: usize, text: &[u8], from: usize) {
-    let given = page.given;
-    let end = within(page.end, &given);
-    let all = &given[0..end];
-    let start = within(page.from, all);
-    let answer = page.answer;
-    let n = within(page.length, &answer);
-    match name {
-        0 => say_picked(&all[start..], line_number, text, from),
-        1 => say_picked(&all[0..start], line_number, text, from),
-        2 => say_picked(&answer[0..n], line_number, text, from),
-        _ => say_check(&answer[0..n]),
-    }
+// As code, with both its digits.
+fn say_hex(b: u8) {
+    say_form(
+        b"`0x[0 0|1|2|3|4|5|6|7|8|9|A|B|C|D|E|F][1 0|1|2|3|4|5|6|7|8|9|A|B|C|D|E|F]`",
+        [wide(b / 16), wide(b % 16), 0, 0, 0, 0, 0, 0],
+    );
 }
 
 // Motors are off where there is no wheel order and all three duties are 0.
-fn motors_off(state: State) -> bool {
+fn motors_off(state: State) -> usize {
     let motors = state.motors;
     let duties = motors.duties;
-    motors.order == state::NO_ORDER && wire::clear_from(&duties, 0)
-}
-
-// Passive, nothing half read, motors off.
-fn idle(state: State) -> bool {
-    let partial = state.partial;
-    state.mode == command::PASSIVE && (partial.count == 0 && motors_off(state))
-}
-
-// One run over bytes 128: it ends with the frame that was half read, or with the first byte.
-fn run_of_128(state: State) -> board::Ran {
-    let image = [0u8; 40];
-    let mut buffer = [0u8; 64];
-    let starts = [128u8; 511];
-    board::run(state, &starts, &image, &mut buffer)
-}
-
-// How many bytes 128 it takes until the board is idle: those that end the half-read frame, and the next, which is an opcode.
-fn to_idle(state: State) -> usize {
-    let first = run_of_128(state);
-    let then = first.state;
-    if idle(then) {
-        return first.read;
-    }
-    let second = run_of_128(then);
-    let last = second.state;
-    if idle(last) {
-        return plus(first.read, second.read);
+    if motors.order == state::NO_ORDER && wire::clear_from(&duties, 0) {
+        return 1;
     }
     0
 }
 
-fn say_yes(is: bool) -> usize {
-    if is { say(b"yes") } else { say(b"no") }
+// A run over 128s ends with the frame that is half read, and the next byte is an opcode; where
+// nothing is half read, the first byte is.
+fn to_opcode(state: State) -> usize {
+    let image = [0u8; 40];
+    let mut buffer = [0u8; 64];
+    let starts = [128u8; 511];
+    let held = state.partial;
+    let ran = board::run(state, &starts, &image, &mut buffer);
+    if held.count == 0 {
+        1
+    } else {
+        plus(ran.read, 1)
+    }
 }
 
-// The fields that are a number or a mode.
-fn say_left(page: Page, name: usize) {
+// The fields that are a number; a mode is two more than its code.
+fn number_of(page: Page, name: usize) -> usize {
     let state = page.state;
     match name {
-        6 => say_data(opcode(page)),
-        7 => say_number(wide(page.written)),
-        8 => say_number(wide(page.number)),
-        9 => say_number(page.length),
-        10 => say_number(page.room),
-        11 => words::say_mode(page.was),
-        12 => words::say_mode(state.mode),
-        13 => say_yes(motors_off(state)),
-        _ => say_number(to_idle(state)),
+        WRITTEN => wide(page.written),
+        NUMBER => wide(page.number),
+        LENGTH => page.length,
+        ROOM => page.room,
+        STOP => to_opcode(state),
+        MOTORS => motors_off(state),
+        WAS => plus(wide(page.was), 2),
+        _ => plus(wide(state.mode), 2),
     }
-    ;
 }
 
-// A field by its name: 0 to 3 are bytes, 4 and 5 speak of the command, 15 is the row's own.
+// How they are shown: as a number, as yes and no, or as a mode.
+fn say_number(page: Page, name: usize) {
+    let n = number_of(page, name);
+    let shown = if name < MOTORS { 0 } else { plus(n, 1) };
+    say_form(
+        b"[0 %1|no|yes|Off|Passive|Safe|Full]",
+        [shown, n, 0, 0, 0, 0, 0, 0],
+    );
+}
+
+// A field that stands alone between its braces.
+fn say_alone(page: Page, name: usize, rest: &[u8]) {
+    match name {
+        VALUE => say_command(page),
+        MODES => say_modes(page),
+        HEX => say_hex(page.opcode),
+        REST => {
+            say(rest);
+        }
+        _ => say_number(page, name),
+    }
+}
+
+// A field by its name.
 fn field(page: Page, line_number: usize, text: &[u8], from: usize, rest: &[u8]) {
     let word = line::next_word(text, from);
     let start = word.start;
     let end = word.end;
     let name = which(
         &text[start..end],
-        b"sent before answer check value modes data written number length room was mode motors stop rest",
+        b"sent before answer value modes hex rest written number length room stop motors was mode",
     );
-    if name >= 16 {
-        say_fault(line_number, start, Fault::Field);
+    if name >= FIELDS {
+        say_fault(line_number, start, page::NO_FIELD);
         return;
     }
-    if name < 4 {
+    if name < VALUE {
         say_listed(page, name, line_number, text, end);
-        return;
-    }
-    if !ends(text, end, line_number) {
-        return;
-    }
-    match name {
-        4 => say_command(page),
-        5 => say_modes(page),
-        15 => {
-            say(rest);
-        }
-        _ => say_left(page, name),
+    } else if ends(text, end, line_number) {
+        say_alone(page, name, rest);
     }
 }
 
@@ -245,7 +264,7 @@ pub fn fill(page: Page, line_number: usize, text: &[u8], from: usize, rest: &[u8
         }
         let close = find(text, open, b'}');
         if close == text.len() {
-            say_fault(line_number, open, Fault::Brace);
+            say_fault(line_number, open, page::OPEN_BRACE);
             break;
         }
         field(page, line_number, &text[0..close], open + 1, rest);

@@ -1,45 +1,51 @@
-// Fills in a template, read from standard input, with what the proved libraries give: crates/hostpage/stdin becomes docs/HOST.md, the page for people who write
-// hosts. Text is the template's; every byte, mode, number and length that the board or the writer decides is asked of them here.
+// Fills in a template, read from standard input, with what the proved libraries give:
+// crates/hostpage/stdin becomes docs/HOST.md, the page for people who write hosts. Text is the
+// template's; every byte, mode, number and length that the board or the writer decides is asked of
+// them here.
 //
-// A line that does not begin with @ is copied, and its fields, names in braces, are replaced. A line that begins with @ is one of
+// A line that does not begin with @ is copied, and its fields, names in braces, are replaced. A
+// line that begins with @ is one of
 //     @# TEXT              a remark: nothing is written
 //     @do ACT ; ACT ..     performs the acts
 //     @form TEXT           the layout of the rows that follow, with fields
 //     @row ACT ; .. | REST performs the acts and writes a row in that layout
-// An act is a command by its name and values, as `words` reads them (drive 200 500), written by the host-side writer and given to the board; or one of
-//     power-on             the record as at power-on, and buffers of 1024 bytes; the bytes given are kept from here on
-//     bytes N ..           these bytes in one run, for what the writer refuses or a frame that is half sent
+// An act is a command by its name and values, as `words` reads them (drive 200 500), written by the
+// host-side writer and given to the board; or one of
+//     power-on             the record as at power-on, and buffers of 1024 bytes; the bytes given
+//                          are kept from here on
+//     bytes N ..           these bytes in one run, for what the writer refuses or a frame that is
+//                          half sent
 //     opcode N             the command of any opcode without data, for what has no name
-//     mode N               a mode written into the record, be it one that there is not
 //     room N               buffers of 0 to 255 bytes, lent to the writer and to the board
-//     image P N ..         bytes of the sensor image, from place P on
+//     image P N            a byte of the sensor image, at place P
 //     tick, wheel-drop, cliff, charger   a tick; a safety report of that alone
-// The record, the image and the room are carried from line to line. A field says what came of the last act: `fields` lists them.
-// A bad line gets a message with its line and place, and the rest of the template is still filled in.
+//     mode N, ..           a part of the record set by hand, by the names of `words`
+// The record, the image and the room are carried from line to line. A field says what came of the
+// last act: `fields` lists them. A bad line gets a message with its line and place, and the rest of
+// the template is still filled in.
 mod acts;
 mod fields;
 mod page;
 
 use acts::perform;
 use fields::fill;
-use page::Fault;
 use page::Page;
 use page::bad;
 use page::find;
 use page::put;
+use page::say_fault;
 use terminal::plus;
-use terminal::say;
-use terminal::say_where;
 use terminal::within;
 
 // The most bytes of a line.
 const LONGEST: usize = 2048;
 
-// The layout of rows from here on. Its line is kept whole, so that places are those of the template.
+// The layout of rows from here on. Its line is kept whole, so that places are those of the
+// template.
 fn set_form(page: Page, text: &[u8]) -> Page {
     let mut form = [0u8; 256];
     if !put(text, &mut form, 0) {
-        return bad(page, 256, Fault::LongForm);
+        return bad(page, 256, page::LONG_FORM);
     }
     let mut next = page;
     next.form = form;
@@ -53,7 +59,7 @@ fn row(page: Page, text: &[u8], from: usize) -> Page {
     let bar = find(text, within(from, text), b'|');
     let next = perform(page, &text[0..bar], from);
     if next.form_size == 0 {
-        return bad(next, 0, Fault::NoForm);
+        return bad(next, 0, page::NO_FORM);
     }
     let cells = line::next_word(text, plus(bar, 1));
     let start = cells.start;
@@ -79,14 +85,14 @@ fn direct(page: Page, text: &[u8]) -> Page {
         1 => perform(page, text, end),
         2 => set_form(page, text),
         3 => row(page, text, end),
-        _ => bad(page, start, Fault::Directive),
+        _ => bad(page, start, page::NO_DIRECTIVE),
     }
 }
 
 // A line: its bytes are the first `size` of those lent.
 fn take(page: Page, line: &[u8], size: usize, cut: bool) -> Page {
     if cut {
-        return bad(page, LONGEST, Fault::LongLine);
+        return bad(page, LONGEST, page::LONG_LINE);
     }
     let n = within(size, line);
     let text = &line[0..n];
@@ -97,17 +103,8 @@ fn take(page: Page, line: &[u8], size: usize, cut: bool) -> Page {
     page
 }
 
-// How the reading ended, where that was not well.
-fn finish(line_number: usize, came: u8) {
-    if came == terminal::FAILED {
-        say_where(line_number, 0);
-        say(b"the template cannot be read further\n");
-    } else if line_number == 0 {
-        say(b"there is no template: nothing was read\n");
-    }
-}
-
-// A proved loop has to end, and nothing says that the input does: the turns count down from a number that no run uses up.
+// A proved loop has to end, and nothing says that the input does: the turns count down from a
+// number that no run uses up.
 fn main() {
     let mut kept = [0u8; LONGEST];
     let line: &mut [u8] = &mut kept;
@@ -119,7 +116,9 @@ fn main() {
         let rest = got.input;
         input = rest;
         if got.came != terminal::LINE {
-            finish(input.line_number, got.came);
+            if got.came == terminal::FAILED {
+                say_fault(input.line_number, 0, page::NOT_READ);
+            }
             break;
         }
         page.line_number = input.line_number;

@@ -1,9 +1,10 @@
-// Feeds the line reader an ordinary text, a long line, noise, a last line without a newline, and nothing, in blocks of eight bytes, and writes the lines
-// and words that it finds, with their places counted from 1.
+// Feeds the line reader an ordinary text, a long line, noise, a last line without a newline, and
+// nothing, in blocks of eight bytes, and writes the lines and words that it finds, with their
+// places counted from 1.
 ghost use Prim.Native.Nat.{_≤_, _<_};
 use line::Number;
 use terminal::say;
-use terminal::say_number;
+use terminal::say_form;
 use terminal::say_shown;
 use terminal::within;
 
@@ -18,34 +19,33 @@ struct Held {
     cut: bool,
 }
 
+// What a word is as a number, and the end of its line.
 fn say_value(word: &[u8]) {
     let value = line::signed(word);
+    let mut kind = 3;
+    let mut number = 0;
     match value {
         Number::Plain(n) => {
-            say(b"number ");
-            say_number(n);
+            kind = 0;
+            number = n;
         }
         Number::Minus(n) => {
-            say(b"number -");
-            say_number(n);
+            kind = 1;
+            number = n;
         }
-        Number::TooLarge => {
-            say(b"a number too large");
-        }
-        Number::NotANumber => {
-            say(b"no number");
-        }
+        Number::TooLarge => kind = 2,
+        Number::NotANumber => kind = 3,
     }
+    say_form(
+        b", [0 number %1|number -%1|a number too large|no number]\n",
+        [kind, number, 0, 0, 0, 0, 0, 0],
+    );
 }
 
 fn say_word(word: &[u8], place: usize) {
-    say(b"    place ");
-    say_number(place);
-    say(b": ");
+    say_form(b"    place %0: ", [place, 0, 0, 0, 0, 0, 0, 0]);
     say_shown(word);
-    say(b", ");
     say_value(word);
-    say(b"\n");
 }
 
 // There are at most as many words as bytes.
@@ -67,17 +67,16 @@ fn say_words(text: &[u8]) {
 
 fn say_line(line: &[u8], held: Held) {
     let size = within(held.size, line);
-    say(b"  a line of ");
-    say_number(size);
-    say(b" bytes");
-    if held.cut {
-        say(b", the rest did not fit");
-    }
-    say(b"\n");
+    let cut = if held.cut { 1 } else { 0 };
+    say_form(
+        b"  a line of %0 bytes[1 |, the rest did not fit]\n",
+        [size, cut, 0, 0, 0, 0, 0, 0],
+    );
     say_words(&line[0..size]);
 }
 
-// The lines of a block; a part of one is kept for the next block. There is at most one line more than there are bytes.
+// The lines of a block; a part of one is kept for the next block. There is at most one line more
+// than there are bytes.
 fn read_block(block: &[u8], line: &mut [u8], held: Held) -> Held {
     let mut size = held.size;
     let mut cut = held.cut;
@@ -131,9 +130,7 @@ fn read_text(text: &[u8]) {
 
 fn show(name: &[u8], text: &[u8]) {
     say(name);
-    say(b", ");
-    say_number(text.len());
-    say(b" bytes\n");
+    say_form(b", %0 bytes\n", [text.len(), 0, 0, 0, 0, 0, 0, 0]);
     read_text(text);
 }
 
