@@ -13,7 +13,8 @@ use terminal::within;
 
 const IMAGE: u8 = 5;
 
-// What settings leave for the calls after them: the sensor image, and the length of the buffer that is lent.
+// What settings leave for the calls after them: the sensor image, and the length of the buffer that
+// is lent.
 pub struct Setup {
     pub image: [u8; 40],
     pub room: usize,

@@ -1,17 +1,19 @@
-// A file of calls, record by record. The block is filled up again when less is left of it than the longest record has.
+// A file of calls, record by record. The block is filled up again when less is left of it than the
+// longest record has.
 ghost use Prim.Native.Nat.{_≤_, _<_};
 ghost use lib.ListN.{length};
 use crate::layout::byte_at;
 use crate::layout::word_at;
 use terminal::plus;
-use terminal::say;
-use terminal::say_number;
+use terminal::say_form;
+use terminal::wide;
 use terminal::within;
 
 // More than the longest record: a run of 1,024 bytes.
 const LONGEST: usize = 2048;
 
-// The kinds whose body is looked at before the record is performed; the last three are asked for elsewhere too.
+// The kinds whose body is looked at before the record is performed; the last three are asked for
+// elsewhere too.
 const REPORT: u8 = 2;
 
 pub const RUN: u8 = 129;
@@ -20,7 +22,8 @@ pub const ROOM: u8 = 130;
 
 pub const STATE: u8 = 131;
 
-// What is wrong with a record, or that nothing is. The last two are no faults of the file: its end, and a read that failed.
+// What is wrong with a record, or that nothing is. The last two are no faults of the file: its end,
+// and a read that failed.
 pub const WHOLE: u8 = 0;
 
 const UNKNOWN_KIND: u8 = 1;
@@ -37,8 +40,9 @@ const END: u8 = 6;
 
 const FAILED: u8 = 7;
 
-// The bytes of the block that are not used yet, and the offset of the first of them in the file. `over` is WHOLE while there may be more. A proved loop has to
-// end, and nothing says that the input does: the turns count down from a number that no file uses up.
+// The bytes of the block that are not used yet, and the offset of the first of them in the file.
+// `over` is WHOLE while there may be more. A proved loop has to end, and nothing says that the
+// input does: the turns count down from a number that no file uses up.
 pub struct Window {
     pub from: usize,
     pub end: usize,
@@ -243,15 +247,9 @@ pub fn say_fault(offset: usize, fault: u8) {
     if fault == END {
         return;
     }
-    say(b"offset ");
-    say_number(offset);
-    match fault {
-        UNKNOWN_KIND => say(b": unknown kind\n"),
-        CUT_SHORT => say(b": cut short\n"),
-        LARGE_FLAGS => say(b": flags above 7\n"),
-        LONG_RUN => say(b": run above 1024\n"),
-        LARGE_ROOM => say(b": room above 1024\n"),
-        _ => say(b": standard input cannot be read\n"),
-    }
-    ;
+    say_form(
+        b"offset %0: [1 |unknown kind|cut short|flags above 7|run above 1024|room above 1024||\
+        standard input cannot be read]\n",
+        [offset, wide(fault), 0, 0, 0, 0, 0, 0],
+    );
 }

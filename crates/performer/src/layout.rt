@@ -1,5 +1,7 @@
 // A state record in bytes, as docs/CALLS.md lays it out, both ways.
 ghost use Prim.Native.Nat.{_<_};
+use crate::tally::Sink;
+use crate::tally::put;
 use frame::Partial;
 use state::Kept;
 use state::Motors;
@@ -7,6 +9,7 @@ use state::Song;
 use state::Songs;
 use state::State;
 use state::Stream;
+use terminal::bits;
 use terminal::plus;
 use terminal::wide;
 
@@ -38,25 +41,6 @@ pub fn put_byte(out: &mut [u8], at: usize, b: u8) {
     if at < out.len() {
         out[at] = b;
     }
-}
-
-// Bytes, put to a place.
-fn put(out: &mut [u8], at: usize, bytes: &[u8]) {
-    let mut i = 0;
-    while i < bytes.len() {
-        put_byte(out, plus(at, i), bytes[i]);
-        i += 1;
-    }
-}
-
-fn put_word(out: &mut [u8], at: usize, n: usize) {
-    put_byte(out, at, (n / 256 % 256) as u8);
-    put_byte(out, plus(at, 1), (n % 256) as u8);
-}
-
-fn put_signed(out: &mut [u8], at: usize, v: i16) {
-    put_byte(out, at, wire::high16(v));
-    put_byte(out, plus(at, 1), wire::low16(v));
 }
 
 // ---- from bytes
@@ -140,65 +124,66 @@ pub fn state_of(bytes: &[u8]) -> State {
 
 // ---- to bytes
 
-fn put_motors(out: &mut [u8], motors: Motors) {
+fn put_one(sink: Sink, b: u8) -> Sink {
+    put(sink, &[b])
+}
+
+fn put_word(sink: Sink, n: usize) -> Sink {
+    put(sink, &[(n / 256 % 256) as u8, (n % 256) as u8])
+}
+
+fn put_motors(sink: Sink, motors: Motors) -> Sink {
     let duties = motors.duties;
-    put_byte(out, 1, motors.order);
-    put_signed(out, 2, motors.first);
-    put_signed(out, 4, motors.second);
-    put(out, 6, &duties);
+    let order = put_one(sink, motors.order);
+    let first = put_word(order, bits(motors.first));
+    let second = put_word(first, bits(motors.second));
+    put(second, &duties)
 }
 
-fn put_kept(out: &mut [u8], kept: Kept) {
+fn put_kept(sink: Sink, kept: Kept) -> Sink {
     let leds = kept.leds;
-    put_byte(out, 9, kept.baud);
-    put(out, 10, &leds);
-    put_byte(out, 13, kept.outputs);
-    put_byte(out, 14, kept.ir);
+    let lit = put(put_one(sink, kept.baud), &leds);
+    put_one(put_one(lit, kept.outputs), kept.ir)
 }
 
-fn put_song(out: &mut [u8], at: usize, song: Song) {
+fn put_song(sink: Sink, song: Song) -> Sink {
     let notes = song.notes;
-    put_byte(out, at, song.len);
-    put(out, plus(at, 1), &notes);
+    put(put_one(sink, song.len), &notes)
 }
 
-fn put_songs(out: &mut [u8], songs: Songs) {
+fn put_songs(sink: Sink, songs: Songs) -> Sink {
     let table = songs.table;
+    let mut now = sink;
     let mut i = 0;
     while i < 16 {
         let song = table[i];
-        put_song(out, 15 + 33 * i, song);
+        now = put_song(now, song);
         i += 1;
     }
-    put_byte(out, 543, songs.selected);
-    put_byte(out, 544, songs.playing);
+    put_one(put_one(now, songs.selected), songs.playing)
 }
 
-fn put_stream(out: &mut [u8], stream: Stream) {
+fn put_stream(sink: Sink, stream: Stream) -> Sink {
     let ids = stream.ids;
-    put(out, 545, &ids);
-    put_byte(out, 561, stream.count);
-    put_byte(out, 562, stream.on);
+    put_one(put_one(put(sink, &ids), stream.count), stream.on)
 }
 
-fn put_partial(out: &mut [u8], partial: Partial) {
+fn put_partial(sink: Sink, partial: Partial) -> Sink {
     let bytes = partial.bytes;
-    put(out, 563, &bytes);
-    put_word(out, 598, partial.count);
-    put_word(out, 600, partial.remaining);
+    put_word(
+        put_word(put(sink, &bytes), partial.count),
+        partial.remaining,
+    )
 }
 
-// The 602 bytes of a record, from the start of a buffer that has room for them.
-pub fn put_state(out: &mut [u8], state: State) {
+// The 602 bytes of a record.
+pub fn put_state(sink: Sink, state: State) -> Sink {
     let motors = state.motors;
     let kept = state.kept;
     let songs = state.songs;
     let stream = state.stream;
     let partial = state.partial;
-    put_byte(out, 0, state.mode);
-    put_motors(out, motors);
-    put_kept(out, kept);
-    put_songs(out, songs);
-    put_stream(out, stream);
-    put_partial(out, partial);
+    let moved = put_motors(put_one(sink, state.mode), motors);
+    let sung = put_songs(put_kept(moved, kept), songs);
+    put_partial(put_stream(sung, stream), partial)
 }

@@ -1,6 +1,7 @@
-// Performs a file of calls from standard input on one board, and writes one line: how often each number came back, the bytes answered, and a digest of all
-// that was given. With the argument `bare` the digest leaves the records out, with `trace` there is a line for each call instead. docs/CALLS.md has the form
-// of all of it.
+// Performs a file of calls from standard input on one board, and writes one line: how often each
+// number came back, the bytes answered, and a digest of all that was given. With the argument
+// `bare` the digest leaves the records out, with `trace` there is a line for each call instead.
+// docs/CALLS.md has the form of all of it.
 mod calls;
 mod input;
 mod layout;
@@ -8,7 +9,9 @@ mod tally;
 
 use calls::Given;
 use state::State;
+use tally::Sink;
 use tally::Tally;
+use terminal::say;
 use terminal::within;
 
 // What is written: a summary with the records in its digest, one without, or a line for each call.
@@ -40,7 +43,7 @@ fn told(
     before: Tally,
     style: u8,
     given: Given,
-    numbers: &mut [u64; 10],
+    numbers: &mut [usize; 10],
     buffer: &mut [u8],
 ) -> Tally {
     let n = within(given.length, buffer);
@@ -57,31 +60,36 @@ fn told(
 
 // And the record after it.
 fn with_record(before: Tally, style: u8, state: State) -> Tally {
+    let traces = style == TRACE;
+    let sink = Sink {
+        digest: before.digest,
+        traces,
+    };
+    let put = layout::put_state(sink, state);
     let mut tally = before;
-    if style == TRACE {
-        tally::say_record(state);
-    }
-    if style == WHOLE {
-        tally.digest = tally::of_record(tally.digest, state);
+    tally.digest = put.digest;
+    if traces {
+        say(b"\n");
     }
     tally
 }
 
-fn finish(tally: Tally, numbers: [u64; 10], style: u8, offset: usize, fault: u8) {
+fn finish(tally: Tally, numbers: [usize; 10], style: u8, offset: usize, fault: u8) {
     if style != TRACE {
         tally::say_tally(tally, numbers);
     }
     input::say_fault(offset, fault);
 }
 
-// The whole file. The record stands in an array of two, by turns the one before a call and the one after it, so that the compiler moves it as a whole; and runs
-// are called here, so that what they give is moved once.
+// The whole file. The record stands in an array of two, by turns the one before a call and the one
+// after it, so that the compiler moves it as a whole; and runs are called here, so that what they
+// give is moved once.
 fn perform(first: State, style: u8, block: &mut [u8]) {
     let mut space = [0u8; 1024];
     let buffer: &mut [u8] = &mut space;
     let mut states = [first; 2];
     let mut setup = calls::first_setup();
-    let mut numbers = [0u64; 10];
+    let mut numbers = [0usize; 10];
     let mut tally = tally::nothing();
     let mut window = input::open(block);
     while window.turns > 0 {

@@ -1,19 +1,23 @@
 // What was given, counted and digested, or told call by call.
 use crate::layout::put_byte;
-use crate::layout::put_state;
-use state::State;
-use std::num::wrapping_add_u64;
+use std::num::wrapping_add_usize;
 use terminal::plus;
 use terminal::say;
-use terminal::say_number;
+use terminal::say_form;
 use terminal::wide;
 use terminal::within;
 
 // How many calls, the bytes answered, and the digest.
 pub struct Tally {
-    pub calls: u64,
-    pub bytes: u64,
+    pub calls: usize,
+    pub bytes: usize,
     pub digest: u64,
+}
+
+// Where the bytes of a record go, one after the other: into the digest, or to the trace.
+pub struct Sink {
+    pub digest: u64,
+    pub traces: bool,
 }
 
 pub fn nothing() -> Tally {
@@ -26,16 +30,16 @@ pub fn nothing() -> Tally {
 
 pub fn counted(before: Tally, length: usize) -> Tally {
     let mut tally = before;
-    tally.calls = wrapping_add_u64(tally.calls, 1);
-    tally.bytes = wrapping_add_u64(tally.bytes, length as u64);
+    tally.calls = wrapping_add_usize(tally.calls, 1);
+    tally.bytes = wrapping_add_usize(tally.bytes, length);
     tally
 }
 
 // How often each number was given; this one once more.
-pub fn count(numbers: &mut [u64; 10], number: u8) {
+pub fn count(numbers: &mut [usize; 10], number: u8) {
     let i = wide(number);
     if i < 10 {
-        numbers[i] = wrapping_add_u64(numbers[i], 1);
+        numbers[i] = wrapping_add_usize(numbers[i], 1);
     }
 }
 
@@ -63,12 +67,6 @@ pub fn of_answer(digest: u64, number: u8, read: usize, answer: &[u8]) -> u64 {
     of_bytes(of_word(head, read), answer)
 }
 
-pub fn of_record(digest: u64, state: State) -> u64 {
-    let mut bytes = [0u8; 602];
-    put_state(&mut bytes, state);
-    of_bytes(digest, &bytes)
-}
-
 fn digit(n: u8) -> u8 {
     if n < 10 { 48 + n } else { 87 + n % 16 }
 }
@@ -92,47 +90,38 @@ fn say_hex(bytes: &[u8]) {
     say(&text[0..size]);
 }
 
-// A line for a call.
-pub fn say_call(number: u8, read: usize, answer: &[u8]) {
-    say_number(wide(number));
-    say(b" ");
-    say_number(answer.len());
-    say(b" ");
-    say_number(read);
-    say(b" ");
-    if answer.len() == 0 {
-        say(b"-");
+pub fn put(sink: Sink, bytes: &[u8]) -> Sink {
+    if sink.traces {
+        say_hex(bytes);
+        return sink;
     }
+    Sink {
+        digest: of_bytes(sink.digest, bytes),
+        traces: false,
+    }
+}
+
+// A line for a call, up to the record after it.
+pub fn say_call(number: u8, read: usize, answer: &[u8]) {
+    let size = answer.len();
+    say_form(b"%0 %1 %2 [1 -]", [wide(number), size, read, 0, 0, 0, 0, 0]);
     say_hex(answer);
     say(b" ");
 }
 
-// And the record after it.
-pub fn say_record(state: State) {
-    let mut bytes = [0u8; 602];
-    put_state(&mut bytes, state);
-    say_hex(&bytes);
-    say(b"\n");
-}
-
-fn say_count(name: &[u8], n: u64) {
-    say(name);
-    io::print_decimal(libc::STDOUT_FILENO, n);
-}
-
-fn say_numbers(numbers: [u64; 10]) {
-    say(b" numbers");
+fn say_numbers(numbers: [usize; 10]) {
     let mut i = 0;
     while i < 10 {
-        say_count(b" ", numbers[i]);
+        say_form(b" %0", [numbers[i], 0, 0, 0, 0, 0, 0, 0]);
         i += 1;
     }
 }
 
-pub fn say_tally(tally: Tally, numbers: [u64; 10]) {
-    say_count(b"calls ", tally.calls);
+pub fn say_tally(tally: Tally, numbers: [usize; 10]) {
+    say_form(b"calls %0 numbers", [tally.calls, 0, 0, 0, 0, 0, 0, 0]);
     say_numbers(numbers);
-    say_count(b" bytes ", tally.bytes);
-    say_count(b" digest ", tally.digest);
-    say(b"\n");
+    say_form(
+        b" bytes %0 digest %1\n",
+        [tally.bytes, tally.digest as usize, 0, 0, 0, 0, 0, 0],
+    );
 }

@@ -1,17 +1,15 @@
 -- `performer::layout::put_songs` is safe and ends.
 -- Assumes nothing.
-use mathlib.Core.Path.{_≡_}
 use Prim.Native.Nat.{_-_}
-use lib.ListN.{length}
 use borrow.Author.Needs.{needs}
 use Rattle.performer.proofs.layout.put_songs.Statement.{statement}
 use Rattle.performer.proofs.layout.put_songs.Tie as tie
 
 abbrev Inv-loop : tie.InvT-loop
-Inv-loop out₀ songs table i₀ out i = length out ≡ length out₀
+Inv-loop songs table now₀ i₀ now i = Unit {0}
 
 abbrev μ-loop : tie.MeasureT-loop
-μ-loop out₀ songs table i₀ out i = 16 - i
+μ-loop songs table now₀ i₀ now i = 16 - i
 
 pub put-songs-spec : {M : Type 1} → statement M
 put-songs-spec =
@@ -22,13 +20,10 @@ put-songs-spec =
     (λ c. search needs)
     (λ c. search needs)
     (λ c. search needs)
-    (λ c. search needs)
-    (λ c. search needs)
     (λ c κs. search needs)
     (λ c. search needs)
     (λ c. search needs)
     (λ c. search needs)
     (λ c κs. search needs)
     (λ c κs. search needs)
-    (λ c. search needs)
     (λ c. search needs))
