@@ -100,7 +100,7 @@ fn other(session: Session, text: &[u8], end: usize) -> Session {
     session::faulty(session, 0, session::NO_KIND)
 }
 
-fn told(session: Session, text: &[u8], size: usize, cut: bool, line_number: usize) -> Session {
+fn read_line(session: Session, text: &[u8], size: usize, cut: bool, line_number: usize) -> Session {
     let mut next = session;
     next.line_number = line_number;
     if cut {
@@ -136,7 +136,7 @@ fn main() {
             finish(session, got.came);
             break;
         }
-        session = told(session, text, got.size, got.cut, input.line_number);
+        session = read_line(session, text, got.size, got.cut, input.line_number);
         turns -= 1;
     }
 }

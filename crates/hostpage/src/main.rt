@@ -76,7 +76,7 @@ fn row(page: Page, text: &[u8], from: usize) -> Page {
 }
 
 // A line that begins with @.
-fn direct(page: Page, text: &[u8]) -> Page {
+fn by_directive(page: Page, text: &[u8]) -> Page {
     let word = line::next_word(text, 0);
     let start = word.start;
     let end = word.end;
@@ -97,7 +97,7 @@ fn take(page: Page, line: &[u8], size: usize, cut: bool) -> Page {
     let n = within(size, line);
     let text = &line[0..n];
     if text.len() > 0 && text[0] == b'@' {
-        return direct(page, text);
+        return by_directive(page, text);
     }
     fill(page, page.line_number, text, 0, b"");
     page

@@ -183,7 +183,7 @@ pub fn put_state(sink: Sink, state: State) -> Sink {
     let songs = state.songs;
     let stream = state.stream;
     let partial = state.partial;
-    let moved = put_motors(put_one(sink, state.mode), motors);
-    let sung = put_songs(put_kept(moved, kept), songs);
-    put_partial(put_stream(sung, stream), partial)
+    let motors_put = put_motors(put_one(sink, state.mode), motors);
+    let songs_put = put_songs(put_kept(motors_put, kept), songs);
+    put_partial(put_stream(songs_put, stream), partial)
 }

@@ -39,7 +39,7 @@ fn style_asked() -> u8 {
 }
 
 // What a call gave is counted and digested, or told; and its answer is cleared for the next one.
-fn told(
+fn tallied(
     before: Tally,
     style: u8,
     given: Given,
@@ -112,7 +112,7 @@ fn perform(first: State, style: u8, block: &mut [u8]) {
             let after = ran.state;
             states[1 - at] = after;
             let given = calls::gave(ran.number, ran.length, ran.read);
-            tally = told(tally, style, given, &mut numbers, buffer);
+            tally = tallied(tally, style, given, &mut numbers, buffer);
             if style != BARE {
                 tally = with_record(tally, style, states[1 - at]);
             }
