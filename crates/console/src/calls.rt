@@ -146,7 +146,7 @@ fn say_back(session: Session, used: usize, number: u8, after: State) -> Session 
 }
 
 // A call that answers with no bytes.
-fn told(session: Session, number: u8, after: State) -> Session {
+fn say_call(session: Session, number: u8, after: State) -> Session {
     if is_same(session, number, after) {
         return counted(session, after);
     }
@@ -230,14 +230,14 @@ pub fn give_report(session: Session, drop: bool, cliff: bool, charger: bool) -> 
     let state = session.state;
     let answer = board::safety_report(state, drop, cliff, charger);
     let after = answer.state;
-    told(session, answer.number, after)
+    say_call(session, answer.number, after)
 }
 
 pub fn give_song_end(session: Session) -> Session {
     let state = session.state;
     let answer = board::song_end(state);
     let after = answer.state;
-    told(session, answer.number, after)
+    say_call(session, answer.number, after)
 }
 
 pub fn give_tick(session: Session) -> Session {
@@ -246,7 +246,7 @@ pub fn give_tick(session: Session) -> Session {
     let state = session.state;
     let stream = state.stream;
     if came.length == 0 {
-        return told(session, came.number, after);
+        return say_call(session, came.number, after);
     }
     let next = say_back(session, say_label(session), came.number, after);
     answers::say_chunk(session.raw, stream, came);
