@@ -104,17 +104,14 @@ fn perform(first: State, style: u8, block: &mut [u8]) {
             setup = calls::set(setup, record.kind, body);
         } else {
             let lent = calls::lent(buffer, setup.room);
-            let given = if record.kind == input::RUN {
-                let ran = board::run(states[at], body, &setup.image, lent);
-                let after = ran.state;
-                states[1 - at] = after;
-                calls::gave(ran.number, ran.length, ran.read)
+            let ran = if record.kind == input::RUN {
+                board::run(states[at], body, &setup.image, lent)
             } else {
-                let ran = calls::perform(states[at], record.kind, body, &setup.image, lent);
-                let after = ran.state;
-                states[1 - at] = after;
-                calls::gave(ran.number, ran.length, ran.read)
+                calls::perform(states[at], record.kind, body, &setup.image, lent)
             };
+            let after = ran.state;
+            states[1 - at] = after;
+            let given = calls::gave(ran.number, ran.length, ran.read);
             tally = tallied(tally, style, given, &mut numbers, buffer);
             if style != BARE {
                 tally = with_record(tally, style, states[1 - at]);
