@@ -15,6 +15,8 @@
 // the tables and the shown cases of docs/RULES.md come out as written; and from any accepted record
 // every list of calls that reads at least 511 bytes, all 128, ends in Passive with nothing half
 // read and all motors off, and 511 is the least.
+#![tactic(auto)]
+
 mod effect;
 
 ghost use Rattle.std.specs.Prelude.{◌≡◌, true, cond, ◌&&◌, [], ◌∷◌, ◌<◌, pos, length, drop};
@@ -55,7 +57,7 @@ const WAITING: u8 = 9;
 // What a call gives back: its number, the length of what it wrote at its buffer's start, and the
 // new record.
 #[repr(C)]
-#[derive(Drop)]
+#[derive(Clone, Copy)]
 pub struct Answer {
     pub number: u8,
     pub length: usize,
@@ -64,7 +66,7 @@ pub struct Answer {
 
 // And a run, with how many bytes were read.
 #[repr(C)]
-#[derive(Drop)]
+#[derive(Clone, Copy)]
 pub struct Ran {
     pub number: u8,
     pub length: usize,

@@ -12,6 +12,8 @@
 //     bad START | BACK | START | BACK | RULE               a bad record and its good neighbour
 //     write START | COMMAND | BACK | BACK | START | RULE   the writer, the board on its bytes
 //     speeds START | EXACT | BACK | RULE                   the wheel speeds of a record's order
+#![tactic(auto)]
+
 mod cases;
 mod fields;
 mod give;

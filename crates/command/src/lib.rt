@@ -28,6 +28,8 @@
 // use; every frame of legal data is what the writer writes of its message; a frame has at most 35
 // bytes; a refusal writes nothing. And (specs/Fields.antt): flat fields say every message that can
 // be written, by the rows of docs/CALLS.md.
+#![tactic(auto)]
+
 ghost use Rattle.std.specs.Prelude.{◌≡◌, [], ◌∷◌, ◌++◌};
 ghost use Rattle.wire.specs.Lists.{within, padded};
 ghost use Rattle.wire.specs.Sixteen.{be16};
@@ -40,7 +42,7 @@ use wire::Sent;
 
 // A command, with its numbers as a host thinks of them, in the order in which they are sent. Notes
 // and ids, which an enum can't hold, stand beside it in a message.
-#[derive(Drop)]
+#[derive(Clone, Copy)]
 pub enum Command {
     // 128
     Start,
@@ -95,7 +97,7 @@ pub enum Command {
 }
 
 // A command with its notes or ids, in the first places of the payload.
-#[derive(Drop)]
+#[derive(Clone, Copy)]
 pub struct Message {
     pub command: Command,
     pub payload: [u8; 32],
@@ -105,7 +107,7 @@ pub struct Message {
 // are sent, the two words of a Drive or a Direct, and the payload. Which of them are a command's
 // data is in docs/CALLS.md; the others are ignored.
 #[repr(C)]
-#[derive(Drop)]
+#[derive(Clone, Copy)]
 pub struct Fields {
     pub opcode: u8,
     pub a: u8,
@@ -118,7 +120,7 @@ pub struct Fields {
 
 // The bytes of a frame before its payload: the opcode and the command's numbers, in the
 // first places.
-#[derive(Drop)]
+#[derive(Clone, Copy)]
 struct Head {
     bytes: [u8; 5],
     size: usize,

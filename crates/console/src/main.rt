@@ -1,6 +1,8 @@
 // A board that a person can try. It reads lines from standard input, gives what they say to the
 // board, and writes what comes back, one line for a command. A bad line gets a message with its
 // line and place, and does nothing.
+#![tactic(auto)]
+
 mod answers;
 mod calls;
 mod help;

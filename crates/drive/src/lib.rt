@@ -15,6 +15,8 @@
 // speeds are odd in the velocity; no wheel is told more than 500; an accepted record's order is
 // never refused, and in Off and Passive the wheels stand. Nothing overflows for any order. For C
 // and Rust it is `firmware`'s `wheel_speeds`.
+#![tactic(auto)]
+
 ghost use Rattle.std.specs.Prelude.{◌≡◌, ◌<◌, ◌≤◌, nat_abs, ◌+ℤ◌, ◌*ℤ◌};
 ghost use Rattle.drive.specs.Rounding.{nearest_of};
 ghost use Rattle.drive.specs.Orders.{curve_of, cap_of, given, refused, speeds_of};
@@ -32,7 +34,7 @@ const FASTEST: i32 = 500;
 const DONE: u8 = 0;
 
 // The number, 0 or 4, the speed of each wheel, and whether either was capped.
-#[derive(Drop)]
+#[derive(Clone, Copy)]
 pub struct Speeds {
     pub number: u8,
     pub right: i16,
@@ -41,7 +43,7 @@ pub struct Speeds {
 }
 
 // Both wheels' speeds before the cap.
-#[derive(Drop)]
+#[derive(Clone, Copy)]
 struct Wheels {
     right: i32,
     left: i32,

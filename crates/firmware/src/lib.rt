@@ -4,6 +4,8 @@
 // Each call of the board is lent the state record, hands it to the board by value and stores what
 // comes back. Nothing is kept between two calls. What crosses, in or out, is numbers alone, no bool
 // and no enum, so that any bytes that are lent are a record, good or bad.
+#![tactic(auto)]
+
 mod steps;
 
 ghost use Rattle.std.specs.Prelude.{◌≡◌, length};
@@ -24,7 +26,7 @@ use steps::flag_of;
 
 // The number (docs/RULES.md N0 to N9), and the length of what was written at the buffer's start.
 #[repr(C)]
-#[derive(Drop)]
+#[derive(Clone, Copy)]
 pub struct Reply {
     pub number: u8,
     pub length: usize,
@@ -32,7 +34,7 @@ pub struct Reply {
 
 // And of a run, with how many bytes were read.
 #[repr(C)]
-#[derive(Drop)]
+#[derive(Clone, Copy)]
 pub struct RunReply {
     pub number: u8,
     pub length: usize,
@@ -41,7 +43,7 @@ pub struct RunReply {
 
 // `drive`'s number and speeds, and whether either was capped: 1 yes, 0 no.
 #[repr(C)]
-#[derive(Drop)]
+#[derive(Clone, Copy)]
 pub struct WheelSpeeds {
     pub number: u8,
     pub right: i16,

@@ -13,6 +13,8 @@
 // Proved (specs/Cut.antt): whatever the data bytes are, none is read as an opcode, and the byte
 // after them is; so of 511 bytes 128 the last is read as one, and 511 is the least such number. The
 // cut knows nothing of modes, nor of whether a command will be refused.
+#![tactic(auto)]
+
 ghost use Rattle.std.specs.Prelude.{◌≡◌};
 ghost use Rattle.frame.specs.FrameTable.{data_length, header_size};
 ghost use Rattle.frame.specs.Push.{body_size_as, stores_body_as, append_of, measure_of, empty_partial};
@@ -23,7 +25,7 @@ ghost use Rattle.frame.specs.Reach.{reachable_of};
 pub const LEGAL_COUNT: u8 = 16;
 
 // How many data bytes follow an opcode.
-#[derive(Drop)]
+#[derive(Clone, Copy)]
 pub enum Length {
     // A number that the opcode alone gives.
     Fixed(usize),
@@ -39,7 +41,7 @@ pub enum Length {
 // number, and how many bytes remain, which the rules call owed. It is empty where both numbers are
 // 0; remaining is 0 while the length is not known.
 #[repr(C)]
-#[derive(Drop)]
+#[derive(Clone, Copy)]
 pub struct Partial {
     pub bytes: [u8; 35],
     pub count: usize,
@@ -48,7 +50,7 @@ pub struct Partial {
 
 // What the bytes of a slice leave; count of them are taken, and complete where the last of these
 // was the frame's last.
-#[derive(Drop)]
+#[derive(Clone, Copy)]
 pub struct Absorbed {
     pub partial: Partial,
     pub complete: bool,

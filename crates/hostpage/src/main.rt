@@ -23,6 +23,8 @@
 // The record, the image and the room are carried from line to line. A field says what came of the
 // last act: `fields` lists them. A bad line gets a message with its line and place, and the rest of
 // the template is still filled in.
+#![tactic(auto)]
+
 mod acts;
 mod fields;
 mod page;

@@ -1,11 +1,13 @@
 // Lines of text, their words, and the numbers that words say, for a program that reads what a
 // person types. Places are indices of the line, from 0.
+#![tactic(auto)]
+
 ghost use Rattle.std.specs.Prelude.{◌≡◌, cond, ◌+◌, ◌-◌, ◌≤◌, leb, length, drop};
 ghost use Rattle.wire.specs.Buffer.{placed};
 ghost use Rattle.line.specs.Text.{is_blank, digit_value, begins_hex, front, passes, word_from, numeral_of, unsigned_of, signed_of, part_of, gathered_of};
 
 // What a word says as a number.
-#[derive(Drop)]
+#[derive(Clone, Copy)]
 pub enum Number {
     NotANumber,
     // Above 65535.
@@ -16,7 +18,7 @@ pub enum Number {
 }
 
 // A word of a text: the places of its first byte and after its last.
-#[derive(Drop)]
+#[derive(Clone, Copy)]
 pub struct Word {
     pub start: usize,
     pub end: usize,
@@ -24,7 +26,7 @@ pub struct Word {
 
 // What a part of a line leaves: the place in the block after it, how many bytes the line has now,
 // whether its newline was there, and whether bytes did not fit.
-#[derive(Drop)]
+#[derive(Clone, Copy)]
 pub struct Gathered {
     pub next: usize,
     pub size: usize,

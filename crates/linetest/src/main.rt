@@ -1,6 +1,8 @@
 // Feeds the line reader an ordinary text, a long line, noise, a last line without a newline, and
 // nothing, in blocks of eight bytes, and writes the lines and words that it finds, with their
 // places counted from 1.
+#![tactic(auto)]
+
 ghost use Rattle.std.specs.Prelude.{◌≤◌, ◌<◌};
 
 use line::Number;

@@ -2,6 +2,8 @@
 // number came back, the bytes answered, and a digest of all that was given. With the argument
 // `bare` the digest leaves the records out, with `trace` there is a line for each call instead.
 // docs/CALLS.md has the form of all of it.
+#![tactic(auto)]
+
 mod calls;
 mod input;
 mod layout;

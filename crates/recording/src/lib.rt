@@ -11,6 +11,8 @@
 // written is read back, and what is read prints as it came; a playback leaves what the same calls
 // made live leave, also where it is played in parts; and the recording of any calls made live from
 // power-on replays to the record that they left.
+#![tactic(auto)]
+
 mod writers;
 
 ghost use Rattle.std.specs.Prelude.{◌≡◌, ◌+◌, ◌≤◌, length, take, drop};
@@ -34,7 +36,7 @@ pub const MOST_FLAGS: u8 = 7;
 
 // What stands at a place: a record, or why there is none. An image's 40 bytes are those after its
 // kind.
-#[derive(Drop)]
+#[derive(Clone, Copy)]
 pub enum Seen {
     Serial(u8),
     Report(u8),
@@ -45,21 +47,21 @@ pub enum Seen {
 }
 
 // What a playback has at hand: the state record, and the last image.
-#[derive(Drop)]
+#[derive(Clone, Copy)]
 pub struct Stage {
     pub state: State,
     pub image: [u8; 40],
 }
 
 // What a record gave: the number of its call (0 for an image, which is none), and what it left.
-#[derive(Drop)]
+#[derive(Clone, Copy)]
 pub struct Done {
     pub number: u8,
     pub stage: Stage,
 }
 
 // A record performed, with what stood there and how many bytes it has.
-#[derive(Drop)]
+#[derive(Clone, Copy)]
 pub struct Stepped {
     pub what: Seen,
     pub size: usize,
@@ -68,7 +70,7 @@ pub struct Stepped {
 }
 
 // How far a playback came: the records performed, and where and why it ended.
-#[derive(Drop)]
+#[derive(Clone, Copy)]
 pub struct Played {
     pub stage: Stage,
     pub count: usize,
@@ -275,14 +277,14 @@ pub fn replay(s: &[u8]) -> Played
 
 // A recording that is lent, and a place in it. The functions over it are thin: each takes it apart,
 // and the work stands above.
-#[derive(Drop)]
+#[derive(Clone, Copy)]
 pub struct Reader<'a> {
     pub recording: &'a [u8],
     pub at: usize,
 }
 
 // What a reader passes over: what stood there, and the place after it.
-#[derive(Drop)]
+#[derive(Clone, Copy)]
 pub struct Passed {
     pub what: Seen,
     pub at: usize,

@@ -6,6 +6,8 @@
 // FILE is the recording; for `-`, or where none is named, it is standard input. With `each` there
 // is a line for every record that changed the mode or the motors, or was refused. With `until` it
 // stops before the first record that begins at or after OFFSET.
+#![tactic(auto)]
+
 mod asked;
 mod counts;
 mod each;

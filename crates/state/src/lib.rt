@@ -15,6 +15,8 @@
 // Proved (specs/Record.antt): which records are accepted, exactly; the power-on record is; each
 // setter keeps a record accepted, under the condition on what it sets; and (specs/Same.antt) the
 // test of two records is equality.
+#![tactic(auto)]
+
 mod compare;
 mod items;
 mod setters;
@@ -53,7 +55,7 @@ pub const YES: u8 = 1;
 // A wheel order: its kind, and velocity and radius of a Drive, or right and left of a Direct. Of no
 // order the two numbers may be anything. Driver i's duty is duties[i].
 #[repr(C)]
-#[derive(Drop)]
+#[derive(Clone, Copy)]
 pub struct Motors {
     pub order: u8,
     pub first: i16,
@@ -64,7 +66,7 @@ pub struct Motors {
 // What is kept as it was sent: the code for the serial speed, the LEDs' three bytes, the digital
 // outputs, the IR byte.
 #[repr(C)]
-#[derive(Drop)]
+#[derive(Clone, Copy)]
 pub struct Kept {
     pub baud: u8,
     pub leds: [u8; 3],
@@ -74,14 +76,14 @@ pub struct Kept {
 
 // A song: its length in notes, 0 where it is not set, and its notes, two bytes each.
 #[repr(C)]
-#[derive(Drop)]
+#[derive(Clone, Copy)]
 pub struct Song {
     pub len: u8,
     pub notes: [u8; 32],
 }
 
 #[repr(C)]
-#[derive(Drop)]
+#[derive(Clone, Copy)]
 pub struct Songs {
     pub table: [Song; 16],
     pub selected: u8,
@@ -90,7 +92,7 @@ pub struct Songs {
 
 // The stream list: its ids, in the first places, and their number.
 #[repr(C)]
-#[derive(Drop)]
+#[derive(Clone, Copy)]
 pub struct Stream {
     pub ids: [u8; 16],
     pub count: u8,
@@ -99,7 +101,7 @@ pub struct Stream {
 
 // It holds no enum and no bool: any bytes that are lent are a record, good or bad.
 #[repr(C)]
-#[derive(Drop)]
+#[derive(Clone, Copy)]
 pub struct State {
     pub mode: u8,
     pub motors: Motors,

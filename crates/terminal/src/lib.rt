@@ -1,6 +1,8 @@
 // What the programs here share: lines from standard input, the numbers of a line with what is said
 // of bad ones, and text to standard output. What is read and written no contract can say; the work
 // is in `line` and in the libraries that the programs call.
+#![tactic(auto)]
+
 mod form;
 mod input;
 mod names;

@@ -16,24 +16,24 @@ use Rattle.command.proofs.LayoutLaws.{says, sort, not_offered, unknown}
 use Rattle.command.proofs.command_of.Statement.{statement}
 use Rattle.command.proofs.command_of.Tie as tie
 
-demo : tie.Need-returns-7
+demo : tie.Need-returns-in-136
 demo c =
     let f : SFits w8 c.read8.result = search rules in
-    ap Demo (to_z-of_z w8 _ f ∙ c.read8.ensures) ∙ says c.before.before.args.t1 c.before.match.keys7
+    ap Demo (to_z-of_z w8 _ f ∙ c.read8.ensures) ∙ says c.before.before.args.bytes c.before.in-136.is
 
-drive : tie.Need-returns-11
+drive : tie.Need-returns-in-137
 drive c =
     let f : SFits w16 c.before.read16.result = search rules in
-    let g : SFits w16 c.read162.result = search rules in
-    ap₂ Drive (to_z-of_z w16 _ f ∙ c.before.read16.ensures) (to_z-of_z w16 _ g ∙ c.read162.ensures)
-    ∙ says c.before.before.before.args.t1 c.before.before.match.keys11
+    let g : SFits w16 c.read16-in-137.result = search rules in
+    ap₂ Drive (to_z-of_z w16 _ f ∙ c.before.read16.ensures) (to_z-of_z w16 _ g ∙ c.read16-in-137.ensures)
+    ∙ says c.before.before.before.args.bytes c.before.before.in-137.is
 
-direct : tie.Need-returns-12
+direct : tie.Need-returns-in-145
 direct c =
-    let f : SFits w16 c.before.read163.result = search rules in
-    let g : SFits w16 c.read164.result = search rules in
-    ap₂ Direct (to_z-of_z w16 _ f ∙ c.before.read163.ensures) (to_z-of_z w16 _ g ∙ c.read164.ensures)
-    ∙ says c.before.before.before.args.t1 c.before.before.match.keys12
+    let f : SFits w16 c.before.read16-in-145.result = search rules in
+    let g : SFits w16 c.read16-in-145-2.result = search rules in
+    ap₂ Direct (to_z-of_z w16 _ f ∙ c.before.read16-in-145.ensures) (to_z-of_z w16 _ g ∙ c.read16-in-145-2.ensures)
+    ∙ says c.before.before.before.args.bytes c.before.before.in-145.is
 
 -- the opcodes of the arms, the last arm's first
 abbrev singles : List (List ℕ)
@@ -52,29 +52,29 @@ cases = case 147 158 2 ∷ case 0 146 1 ∷ case 159 255 1 ∷ []
 abbrev at : ℕ → Case ℕ
 at i = get_or cases i (case 0 0 0)
 
-is_byte : (c : tie.At-match-rest) → get_or c.before.args.t1 0 0 < 256
-is_byte c = let f : Fits w8 (get_or c.before.args.t1 0 0) = search rules in omega arith
+is_byte : (c : tie.In_default-1) → get_or c.before.args.bytes 0 0 < 256
+is_byte c = let f : Fits w8 (get_or c.before.args.bytes 0 0) = search rules in omega arith
 
 sorted : (i : ℕ) → i < 3 → (op : ℕ) → op < 256 → Taken singles (at i).arm op → (at i).gives ≡ sort op
 sorted i h op k = by_cases eqb eqb→eq sort singles cases 256 tt (case 0 0 0) i op h k
 
-returns-24 : tie.Need-returns-24
+returns-24 : tie.Need-returns-in-152-to-158
 returns-24 c =
-    let m = c.before.before in
-    let l = m.before.args.t1 in
-    not_offered l (sorted 0 (omega arith) (get_or l 0 0) (is_byte m) (omega arith, (omega arith, m.match.rest)))
+    
+    let l = c.before.args.bytes in
+    not_offered l (sorted 0 (omega arith) (get_or l 0 0) (is_byte m) (omega arith, (omega arith, c.in-152-to-158.in_default-own.rest)))
 
-returns-25 : tie.Need-returns-25
+returns-25 : tie.Need-returns-in_default
 returns-25 c =
-    let m = c.before in
-    let l = m.before.args.t1 in
-    unknown l (sorted 1 (omega arith) (get_or l 0 0) (is_byte m) (omega arith, (omega arith, m.match.rest)))
+    
+    let l = c.before.args.bytes in
+    unknown l (sorted 1 (omega arith) (get_or l 0 0) (is_byte m) (omega arith, (omega arith, c.in_default.in_default-own.rest)))
 
-returns-26 : tie.Need-returns-26
+returns-26 : tie.Need-returns-in_default-2
 returns-26 c =
-    let m = c.before.before in
-    let l = m.before.args.t1 in
-    unknown l (sorted 2 (omega arith) (get_or l 0 0) (is_byte m) (omega arith, (omega (arith, is_byte m), m.match.rest)))
+    
+    let l = c.before.args.bytes in
+    unknown l (sorted 2 (omega arith) (get_or l 0 0) (is_byte m) (omega arith, (omega (arith, is_byte m), c.in_default.in_default-own.rest)))
 
 pub command_of_spec : {M : Type 1} → statement M
 command_of_spec =
@@ -90,29 +90,29 @@ command_of_spec =
     (λ c κs. search rules)
     (λ c κs. search rules)
     (λ c κs. search rules)
-    (λ c. says c.before.args.t1 c.match.keys1)
-    (λ c. says c.before.args.t1 c.match.keys2)
-    (λ c. says c.before.args.t1 c.match.keys3)
-    (λ c. says c.before.args.t1 c.match.keys4)
-    (λ c. says c.before.args.t1 c.match.keys5)
-    (λ c. says c.before.args.t1 c.match.keys6)
+    (λ c. says c.before.args.bytes c.in-128.is)
+    (λ c. says c.before.args.bytes c.in-129.is)
+    (λ c. says c.before.args.bytes c.in-130.is)
+    (λ c. says c.before.args.bytes c.in-131.is)
+    (λ c. says c.before.args.bytes c.in-132.is)
+    (λ c. says c.before.args.bytes c.in-133.is)
     demo
-    (λ c. says c.before.args.t1 c.match.keys8)
-    (λ c. says c.before.args.t1 c.match.keys9)
-    (λ c. says c.before.args.t1 c.match.keys10)
+    (λ c. says c.before.args.bytes c.in-134.is)
+    (λ c. says c.before.args.bytes c.in-135.is)
+    (λ c. says c.before.args.bytes c.in-143.is)
     drive
     direct
-    (λ c. says c.before.args.t1 c.match.keys13)
-    (λ c. says c.before.args.t1 c.match.keys14)
-    (λ c. says c.before.args.t1 c.match.keys15)
-    (λ c. says c.before.args.t1 c.match.keys16)
-    (λ c. says c.before.args.t1 c.match.keys17)
-    (λ c. says c.before.args.t1 c.match.keys18)
-    (λ c. says c.before.args.t1 c.match.keys19)
-    (λ c. says c.before.args.t1 c.match.keys20)
-    (λ c. says c.before.args.t1 c.match.keys21)
-    (λ c. says c.before.args.t1 c.match.keys22)
-    (λ c. says c.before.args.t1 c.match.keys23)
+    (λ c. says c.before.args.bytes c.in-138.is)
+    (λ c. says c.before.args.bytes c.in-144.is)
+    (λ c. says c.before.args.bytes c.in-139.is)
+    (λ c. says c.before.args.bytes c.in-147.is)
+    (λ c. says c.before.args.bytes c.in-151.is)
+    (λ c. says c.before.args.bytes c.in-140.is)
+    (λ c. says c.before.args.bytes c.in-141.is)
+    (λ c. says c.before.args.bytes c.in-142.is)
+    (λ c. says c.before.args.bytes c.in-149.is)
+    (λ c. says c.before.args.bytes c.in-148.is)
+    (λ c. says c.before.args.bytes c.in-150.is)
     returns-24
     returns-25
     returns-26)

@@ -20,8 +20,8 @@ returns c =
     let f = high.before.ranges in
     let a = to_z-of_z w16 _ f.a in
     let b = to_z-of_z w16 _ f.b in
-    head_eq high.before.args.op (rw a at high.high16.ensures) (rw a at c.before.before.low16.ensures) (rw b at c.before.high162.ensures)
-    (rw b at c.low162.ensures)
+    head_eq high.before.args.op (rw a at high.high16.ensures) (rw a at c.before.before.low16.ensures) (rw b at c.before.high16-2.ensures)
+    (rw b at c.low16-2.ensures)
 
 pub head_words_spec : {M : Type 1} → statement M
 head_words_spec =

@@ -11,7 +11,7 @@ use Rattle.command.proofs.is_speed.Tie as tie
 
 returns : tie.Need-returns
 unfolding is_legal
-returns c = (rw (to_z-of_z w16 _ c.before.ranges.v) at c.is-in.ensures) ∙ sym (or_none _)
+returns c = (rw (to_z-of_z w16 _ c.before.ranges.v) at c.is_in.ensures) ∙ sym (or_none _)
 
 pub is_speed_spec : {M : Type 1} → statement M
 is_speed_spec =

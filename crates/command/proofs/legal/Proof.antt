@@ -30,7 +30,7 @@ use Rattle.command.proofs.legal.Statement.{statement}
 use Rattle.command.proofs.legal.Tie as tie
 
 -- the message that is judged
-abbrev asked : tie.After-used → Message
+abbrev asked : tie.After-used-1 → Message
 asked c = c.before.before.before.before.args.message
 
 part-used-end : tie.Need-slice-bounds-used-end
@@ -57,101 +57,101 @@ module _ (m : Message) {v w : ℤ} where
   direct e = sym (direct_tested v w m.payload) ∙ legal_as m e
 
 -- a Demo's number, tested in sixteen bits
-returns-2 : tie.Need-returns-2
+returns-2 : tie.Need-returns-in-Demo
 returns-2 c =
-    let e = c.before.before.before.command2.given in
-    let m = asked c.before.before.before.before.before in
-    let f : SFits w8 e.0.0 = record { sfits = c.before.before.known-told2.given.0.1 } in
-    (rw (widened w16 tt f c.before.widen.ensures) at c.is-in.ensures) ∙ sym (demo_tested _ m.payload) ∙ legal_as m e.1
+    let e = c.before.before.command-in-Demo-1.given in
+    let m = asked c.before.before.before in
+    let f : SFits w8 e.0.0 = record { sfits = c.before.before.in-Demo.known_told-in-Demo-1-own.given.0.1 } in
+    (rw (widened w16 tt f c.before.widen.ensures) at c.is_in.ensures) ∙ sym (demo_tested _ m.payload) ∙ legal_as m e.1
 
-velocity : (c : tie.After-is-speed) → c.is-speed.result ≡ is_legal speed c.before.before.command3.given.0.0
-velocity c = signed speed (record { sfits = c.before.known-told3.given.0.1 }) c.is-speed.ensures
+velocity : (c : tie.After-is_speed) → c.is_speed.result ≡ is_legal speed c.before.in-Drive.velocity
+velocity c = signed speed (record { sfits = c.before.in-Drive.known_told-in-Drive-1-own.given.0.1 }) c.is_speed.ensures
 
-right : (c : tie.After-is-speed2) → c.is-speed2.result ≡ is_legal speed c.before.before.command4.given.0.0
-right c = signed speed (record { sfits = c.before.known-told4.given.0.1 }) c.is-speed2.ensures
+right : (c : tie.After-is_speed-in-Direct) → c.is_speed-in-Direct.result ≡ is_legal speed c.before.in-Direct.right
+right c = signed speed (record { sfits = c.before.in-Direct.known_told-in-Direct-1-own.given.0.1 }) c.is_speed-in-Direct.ensures
 
-returns-3 : tie.Need-returns-3
+returns-3 : tie.Need-returns-then-is_speed
 returns-3 c =
     let first = c.before.before in
-    let second = signed radius (record { sfits = first.before.known-told3.given.1.0.1 }) c.is-radius.ensures in
-    second_tested (velocity first) c.before.if1.true second
-    (drive (asked first.before.before.before.before) first.before.before.command3.given.1)
+    let second = signed radius (record { sfits = first.before.in-Drive.known_told-in-Drive-1-own.given.1.0.1 }) c.is_radius.ensures in
+    second_tested (velocity first) c.before.if-is_speed.true second
+    (drive (asked first.before.before) first.before.in-Drive.is)
 
-returns-4 : tie.Need-returns-4
+returns-4 : tie.Need-returns-else-is_speed
 returns-4 c =
     let first = c.before in
-    first_tested _ (velocity first) c.if1.false (drive (asked first.before.before.before.before) first.before.before.command3.given.1)
+    first_tested _ (velocity first) c.if-is_speed.false (drive (asked first.before.before) first.before.in-Drive.is)
 
-returns-5 : tie.Need-returns-5
+returns-5 : tie.Need-returns-then-is_speed-2
 returns-5 c =
     let first = c.before.before in
-    let second = signed speed (record { sfits = first.before.known-told4.given.1.0.1 }) c.is-speed3.ensures in
-    second_tested (right first) c.before.if2.true second
-    (direct (asked first.before.before.before.before) first.before.before.command4.given.1)
+    let second = signed speed (record { sfits = first.before.in-Direct.known_told-in-Direct-1-own.given.1.0.1 }) c.is_speed-then-is_speed-2.ensures in
+    second_tested (right first) c.before.if-is_speed-2.true second
+    (direct (asked first.before.before) first.before.in-Direct.is)
 
-returns-6 : tie.Need-returns-6
+returns-6 : tie.Need-returns-else-is_speed-2
 returns-6 c =
     let first = c.before in
-    first_tested _ (right first) c.if2.false (direct (asked first.before.before.before.before) first.before.before.command4.given.1)
+    first_tested _ (right first) c.if-is_speed-2.false (direct (asked first.before.before) first.before.in-Direct.is)
 
 -- the three duties, as they are tested
 duties : (m : Message) {a b d : ℕ} → m.command ≡ Duties a b d → (leb a 128 && (leb b 128 && leb d 128)) ≡ legal_of m
 duties m {a} {b} {d} e = sym (duties_legal_lem a b d m.payload) ∙ legal_as m e
 
-returns-8 : tie.Need-returns-8
+returns-8 : tie.Need-returns-then-driver1-le-FULL_DUTY
 returns-8 c =
-    let e = c.before.before.before.command6.given in
-    third_of_three _ (le-leb _ _ c.before.if3.true) (le-leb _ _ c.if4.true)
-    ∙ duties (asked c.before.before.before.before.before) e.1
+    let e = c.before.before.command-in-Duties-1.given in
+    third_of_three _ (le-leb _ _ c.before.if-driver2-le-FULL_DUTY.true) (le-leb _ _ c.if-driver1-le-FULL_DUTY.true)
+    ∙ duties (asked c.before.before.before) e.1
 
-returns-9 : tie.Need-returns-9
+returns-9 : tie.Need-returns-else-driver1-le-FULL_DUTY
 returns-9 c =
-    let e = c.before.before.before.command6.given in
-    second_of_three _ (le-leb _ _ c.before.if3.true) (lt-leb _ _ c.if4.false)
-    ∙ duties (asked c.before.before.before.before.before) e.1
+    let e = c.before.before.command-in-Duties-1.given in
+    second_of_three _ (le-leb _ _ c.before.if-driver2-le-FULL_DUTY.true) (lt-leb _ _ c.if-driver1-le-FULL_DUTY.false)
+    ∙ duties (asked c.before.before.before) e.1
 
-returns-10 : tie.Need-returns-10
+returns-10 : tie.Need-returns-else-driver2-le-FULL_DUTY
 returns-10 c =
-    let e = c.before.before.command6.given in
-    first_decides _ (lt-leb _ _ c.if3.false) ∙ duties (asked c.before.before.before.before) e.1
+    let e = c.before.command-in-Duties-1.given in
+    first_decides _ (lt-leb _ _ c.if-driver2-le-FULL_DUTY.false) ∙ duties (asked c.before.before) e.1
 
-returns-11 : tie.Need-returns-11
+returns-11 : tie.Need-returns-in-Leds
 unfolding row_of legal_of
 returns-11 c =
-    let e = c.before.command7.given in
+    let e = c.command-in-Leds-1.given in
     let f : Fits w8 e.0.0 = search rules in
     let g : Fits w8 e.0.1.0 = search rules in
     let h : Fits w8 e.0.1.1.0 = search rules in
     let d : (leb e.0.0 255 && (leb e.0.1.0 255 && leb e.0.1.1.0 255)) ≡ true =
     simp (le-leb e.0.0 255 (omega arith), le-leb e.0.1.0 255 (omega arith), le-leb e.0.1.1.0 255 (omega arith)) in
-    sym d ∙ bytes_legal 255 _ _ _ ∙ legal_as (asked c.before.before.before) e.1
+    sym d ∙ bytes_legal 255 _ _ _ ∙ legal_as (asked c.before) e.1
 
-returns-13 : tie.Need-returns-13
+returns-13 : tie.Need-returns-in-Infrared
 unfolding row_of legal_of
 returns-13 c =
-    let e = c.before.command9.given in
+    let e = c.command-in-Infrared-1.given in
     let f : Fits w8 e.0.0 = search rules in
-    sym (le-leb e.0.0 255 (omega arith)) ∙ byte_legal 255 _ ∙ legal_as (asked c.before.before.before) e.1
+    sym (le-leb e.0.0 255 (omega arith)) ∙ byte_legal 255 _ ∙ legal_as (asked c.before) e.1
 
 -- a song's number and length, as they are tested
-song : (c : tie.After-used) {n notes : ℕ} → (asked c).command ≡ Song n notes → (leb n 15 && (leb 1 notes && leb notes 16)) ≡ legal_of (asked c)
+song : (c : tie.After-used-1) {n notes : ℕ} → (asked c).command ≡ Song n notes → (leb n 15 && (leb 1 notes && leb notes 16)) ≡ legal_of (asked c)
 song c {n} {notes} e =
     sym (song_is n notes (asked c).payload (any_notes c.before.before.before.before)) ∙ legal_as (asked c) e
 
-returns-14 : tie.Need-returns-14
+returns-14 : tie.Need-returns-then-notes-ge1
 returns-14 c =
-    let e = c.before.before.before.command10.given in
-    third_of_three _ (le-leb _ _ c.before.if5.true) (le-leb _ _ c.if6.true) ∙ song c.before.before.before.before.before e.1
+    let e = c.before.before.command-in-Song-1.given in
+    third_of_three _ (le-leb _ _ c.before.if-song-le-LAST_SONG.true) (le-leb _ _ c.if-notes-ge1.true) ∙ song c.before.before.before e.1
 
-returns-15 : tie.Need-returns-15
+returns-15 : tie.Need-returns-else-notes-ge1
 returns-15 c =
-    let e = c.before.before.before.command10.given in
-    second_of_three _ (le-leb _ _ c.before.if5.true) (lt-leb _ _ c.if6.false) ∙ song c.before.before.before.before.before e.1
+    let e = c.before.before.command-in-Song-1.given in
+    second_of_three _ (le-leb _ _ c.before.if-song-le-LAST_SONG.true) (lt-leb _ _ c.if-notes-ge1.false) ∙ song c.before.before.before e.1
 
-returns-16 : tie.Need-returns-16
+returns-16 : tie.Need-returns-else-song-le-LAST_SONG
 returns-16 c =
-    let e = c.before.before.command10.given in
-    first_decides _ (lt-leb _ _ c.if5.false) ∙ song c.before.before.before.before e.1
+    let e = c.before.command-in-Song-1.given in
+    first_decides _ (lt-leb _ _ c.if-song-le-LAST_SONG.false) ∙ song c.before.before e.1
 
 -- a list's count, and the rule for its ids
 module _ (m : Message) {ids : ℕ} where
@@ -168,37 +168,37 @@ module _ (m : Message) {ids : ℕ} where
       ∙ ids_legal ids (streamable_of (take (stored_count ids) m.payload)) ∙ legal_as m e
 
 -- what is lent is the places in use
-in_use : (c : tie.After-used) → take (c.before.before.payload-size.result - 0) (asked c).payload ≡ payload_in (asked c)
+in_use : (c : tie.After-used-1) → take (c.before.before.payload-size.result - 0) (asked c).payload ≡ payload_in (asked c)
 in_use c =
     let size = c.before.before.payload-size in
     ap (λ (n : ℕ). take n (asked c).payload) (sub-zero size.result ∙ size.ensures)
 
-returns-19 : tie.Need-returns-19
+returns-19 : tie.Need-returns-then-ids-le-LEGAL_COUNT
 returns-19 c =
-    let used = c.before.before.before.before.before in
-    (rw (in_use used) at c.listable.ensures) ∙ last_decides (le-leb _ _ c.before.if7.true)
-    ∙ query (asked used) c.before.before.before.command13.given.1
+    let used = c.before.before.before in
+    (rw (in_use used) at c.listable.ensures) ∙ last_decides (le-leb _ _ c.before.if-ids-le-LEGAL_COUNT.true)
+    ∙ query (asked used) c.before.before.in-QueryList.is
 
-returns-20 : tie.Need-returns-20
-returns-20 c = first_decides _ (lt-leb _ _ c.if7.false) ∙ query (asked c.before.before.before.before) c.before.before.command13.given.1
+returns-20 : tie.Need-returns-else-ids-le-LEGAL_COUNT
+returns-20 c = first_decides _ (lt-leb _ _ c.if-ids-le-LEGAL_COUNT.false) ∙ query (asked c.before.before) c.before.in-QueryList.is
 
-returns-21 : tie.Need-returns-21
+returns-21 : tie.Need-returns-then-ids-le-LEGAL_COUNT-2
 returns-21 c =
-    let used = c.before.before.before.before.before in
-    (rw (in_use used) at c.streamable.ensures) ∙ last_decides (le-leb _ _ c.before.if8.true)
-    ∙ stream (asked used) c.before.before.before.command14.given.1
+    let used = c.before.before.before in
+    (rw (in_use used) at c.streamable.ensures) ∙ last_decides (le-leb _ _ c.before.if-ids-le-LEGAL_COUNT-2.true)
+    ∙ stream (asked used) c.before.before.in-Stream.is
 
-returns-22 : tie.Need-returns-22
-returns-22 c = first_decides _ (lt-leb _ _ c.if8.false) ∙ stream (asked c.before.before.before.before) c.before.before.command14.given.1
+returns-22 : tie.Need-returns-else-ids-le-LEGAL_COUNT-2
+returns-22 c = first_decides _ (lt-leb _ _ c.if-ids-le-LEGAL_COUNT-2.false) ∙ stream (asked c.before.before) c.before.in-Stream.is
 
 -- the variants of the last arm have no data
-returns-26 : tie.Need-returns-26
+returns-26 : tie.Need-returns-in_default
 unfolding row_of legal_of
 returns-26 c =
     let m = asked c.before in
     let test : Command → Bool = λ x. legal_of (record { command = x; payload = m.payload }) in
     let tags : List ℕ = 0 ∷ (from_to 2 5 ++ from_to 7 9) in
-    sym (is_true (legal_of m) (of_tags test tags (λ a b d v w. tt) m.command c.match.keys18))
+    sym (is_true (legal_of m) (of_tags test tags (λ a b d v w. tt) m.command c.in_default.in_default-own.keys18))
 
 pub legal_spec : {M : Type 1} → statement M
 unfolding row_of legal_of
@@ -234,29 +234,29 @@ legal_spec =
     (λ c. search rules)
     (λ c. search rules)
     (λ c. search rules)
-    (λ c. byte_legal 11 _ ∙ legal_as (asked c.before.before.before) c.before.command.given.1)
+    (λ c. byte_legal 11 _ ∙ legal_as (asked c.before) c.in-Baud.is)
     returns-2
     returns-3
     returns-4
     returns-5
     returns-6
-    (λ c. byte_legal 7 _ ∙ legal_as (asked c.before.before.before) c.before.command5.given.1)
+    (λ c. byte_legal 7 _ ∙ legal_as (asked c.before) c.in-Drivers.is)
     returns-8
     returns-9
     returns-10
     returns-11
-    (λ c. byte_legal 7 _ ∙ legal_as (asked c.before.before.before) c.before.command8.given.1)
+    (λ c. byte_legal 7 _ ∙ legal_as (asked c.before) c.in-Outputs.is)
     returns-13
     returns-14
     returns-15
     returns-16
-    (λ c. byte_legal 15 _ ∙ legal_as (asked c.before.before.before) c.before.command11.given.1)
-    (λ c. byte_legal 42 _ ∙ legal_as (asked c.before.before.before) c.before.command12.given.1)
+    (λ c. byte_legal 15 _ ∙ legal_as (asked c.before) c.in-Play.is)
+    (λ c. byte_legal 42 _ ∙ legal_as (asked c.before) c.in-Sensors.is)
     returns-19
     returns-20
     returns-21
     returns-22
-    (λ c. byte_legal 1 _ ∙ legal_as (asked c.before.before.before) c.before.command15.given.1)
-    (λ c. legal_as (asked c.before.before) c.enum_told.given.1)
-    (λ c. legal_as (asked c.before.before) c.enum-told2.given.1)
+    (λ c. byte_legal 1 _ ∙ legal_as (asked c.before) c.in-Pause.is)
+    (λ c. legal_as (asked c.before) c.in-Unknown.is)
+    (λ c. legal_as (asked c.before) c.in-NotOffered.is)
     returns-26)

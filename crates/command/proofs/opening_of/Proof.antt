@@ -17,8 +17,8 @@ use Rattle.command.specs.declared.Fields.{Fields}
 use Rattle.command.proofs.opening_of.Statement.{statement}
 use Rattle.command.proofs.opening_of.Tie as tie
 
-has_words : (c : tie.Joined1) → two_words c.before.args.fields.opcode ≡ true
-has_words c = ⊎_elim (λ w. simp (eq-eqb _ _ w.taken)) (λ w. simp (ne_eqb _ _ w.0.left, w.1.taken)) c.if1.branch
+has_words : (c : tie.Joined-then-op) → two_words c.before.args.fields.opcode ≡ true
+has_words c = ⊎_elim (λ w. simp (eq-eqb _ _ w.true)) (λ w. simp (ne_eqb _ _ w.0.false, w.1.true)) c.then-op.branch-raw
 
 -- the five bytes, one by one
 words_open : (f : Fields) {a b c d : ℕ} → two_words f.opcode ≡ true → a ≡ high16_of f.first → b ≡ low16_of f.first
@@ -31,7 +31,7 @@ first_fits c = search rules
 second_fits : (c : tie.Start) → SFits w16 c.args.fields.second
 second_fits c = search rules
 
-returns : tie.Need-returns
+returns : tie.Need-returns-then-op
 returns c =
     let second = c.before.before in
     let first = second.before.before in
@@ -40,10 +40,10 @@ returns c =
     let a = to_z-of_z w16 _ (first_fits start) in
     let b = to_z-of_z w16 _ (second_fits start) in
     words_open start.args.fields (has_words high.before.before) (rw a at high.high16.ensures) (rw a at first.low16.ensures)
-    (rw b at second.high162.ensures) (rw b at c.low162.ensures)
+    (rw b at second.high16-then-op.ensures) (rw b at c.low16-then-op.ensures)
 
-returns-2 : tie.Need-returns-2
-returns-2 c = simp (ne_eqb _ _ c.before.if1.false, c.if2.false)
+returns-2 : tie.Need-returns
+returns-2 c = simp (ne_eqb _ _ c.before.if-op.false, c.if-op-2.false-raw)
 
 pub opening_of_spec : {M : Type 1} → statement M
 opening_of_spec =

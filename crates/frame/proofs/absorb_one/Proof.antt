@@ -11,23 +11,23 @@ use Rattle.frame.specs.declared.Partial.{Partial}
 use Rattle.frame.proofs.absorb_one.Statement.{statement}
 use Rattle.frame.proofs.absorb_one.Tie as tie
 
-joined : (c : tie.Joined1) → let a = c.before.before.args in
-    ◌≡◌ {A = Partial} (record { bytes = c.if1.bytes; count = c.if1.count; remaining = a.p.remaining }) (append_of a.p a.b)
+joined : (c : tie.Joined-count-lt35) → let a = c.before.before.args in
+    ◌≡◌ {A = Partial} (record { bytes = c.if-count-lt35.bytes; count = c.if-count-lt35.count; remaining = a.p.remaining }) (append_of a.p a.b)
 joined c =
-    ⊎_elim (λ w. simp (w.1, w.2, lt-leb _ _ w.0.taken)) (λ w. simp (w.1, w.2, le-leb _ _ w.0.left)) c.if1.branch
+    ⊎_elim (λ w. simp (w.bytes-is, w.count-is, lt-leb _ _ w.if-count-lt35.true)) (λ w. simp (w.bytes-is, w.count-is, le-leb _ _ w.if-count-lt35.false)) c.if-count-lt35.branch-raw
 
-header : (c : tie.After-header-size) → c.header-size.result ≡ header_of c.before.before.if1.bytes
-header c = c.header-size.ensures ∙ ap header_size c.before.data_length.ensures
+header : (c : tie.After-header_size) → c.header_size.result ≡ header_of c.before.before.if-count-lt35.bytes
+header c = c.header_size.ensures ∙ ap header_size c.before.data_length-length.ensures
 
-returns : tie.Need-returns
+returns : tie.Need-returns-then-count-header_size
 returns c =
-    rw (sym (joined c.before.before.before)) (simp (lt-ltb _ _ (rw (header c.before) at c.if2.true)))
+    rw (sym (joined c.before.before.before)) (simp (lt-ltb _ _ (rw (header c.before) at c.if-count-header_size.true)))
 
-returns-2 : tie.Need-returns-2
+returns-2 : tie.Need-returns
 returns-2 c =
     let h = c.before.before in
     rw (sym (joined h.before.before))
-    (simp (le-ltb _ _ (rw (header h) at c.before.if2.false), c.body-size.ensures, h.before.data_length.ensures))
+    (simp (le-ltb _ _ (rw (header h) at c.before.if-count-header_size.false), c.body_size-remaining.ensures, h.before.data_length-length.ensures))
 
 pub absorb_one_spec : {M : Type 1} → statement M
 absorb_one_spec =

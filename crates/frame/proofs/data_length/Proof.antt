@@ -51,66 +51,58 @@ agrees : (i : ℕ) → T (ltb i (length cases)) → (op : ℕ) → op < 256 → 
 unfolding data_length
 agrees i t op h = by_cases same same_eq data_length singles cases 256 tt (case (keys []) Unknown) i op (ltb→lt i (length cases) t) h
 
-returns : tie.Need-returns
-returns c = agrees 0 tt c.before.args.op (omega arith) c.match.keys3
+returns : tie.Need-returns-in-139
+returns c = agrees 0 tt c.before.args.op (omega arith) c.in-139.is
 
-returns-2 : tie.Need-returns-2
-returns-2 c = agrees 1 tt c.before.args.op (omega arith) c.match.keys4
+returns-2 : tie.Need-returns-in-137
+returns-2 c = agrees 1 tt c.before.args.op (omega arith) c.in-137.is
 
-returns-3 : tie.Need-returns-3
-returns-3 c = agrees 2 tt c.before.args.op (omega arith) c.match.keys5
+returns-3 : tie.Need-returns-in-140
+returns-3 c = agrees 2 tt c.before.args.op (omega arith) c.in-140.is
 
-returns-4 : tie.Need-returns-4
+returns-4 : tie.Need-returns-in-156
 returns-4 c =
-    let m = c.before.before.before.before.before.before.before.before in
-    agrees 3 tt m.before.args.op (omega arith) (omega arith, (omega arith, m.match.rest))
+    agrees 3 tt c.before.args.op (omega arith) (omega arith, (omega arith, c.in-156.in_default-own.rest))
 
-returns-5 : tie.Need-returns-5
-returns-5 c = let m = c.before in agrees 4 tt m.before.args.op (omega arith) (omega arith, (omega arith, m.match.rest))
+returns-5 : tie.Need-returns-in_default
+returns-5 c = agrees 4 tt c.before.args.op (omega arith) (omega arith, (omega arith, c.in_default.in_default-own.rest))
 
-returns-6 : tie.Need-returns-6
+returns-6 : tie.Need-returns-in_default-2
 returns-6 c =
-    let m = c.before.before.before.before in
-    agrees 5 tt m.before.args.op (omega arith) (omega arith, (omega arith, m.match.rest))
+    agrees 5 tt c.before.args.op (omega arith) (omega arith, (omega arith, c.in_default.in_default-own.rest))
 
-returns-7 : tie.Need-returns-7
+returns-7 : tie.Need-returns-in_default-3
 returns-7 c =
-    let m = c.before.before.before.before.before.before.before.before in
-    agrees 6 tt m.before.args.op (omega arith) (omega arith, (omega arith, m.match.rest))
+    agrees 6 tt c.before.args.op (omega arith) (omega arith, (omega arith, c.in_default.in_default-own.rest))
 
-returns-8 : tie.Need-returns-8
-returns-8 c = agrees 7 tt c.before.args.op (omega arith) c.match.keys6
+returns-8 : tie.Need-returns-in-148
+returns-8 c = agrees 7 tt c.before.args.op (omega arith) c.in-148.is
 
-returns-9 : tie.Need-returns-9
+returns-9 : tie.Need-returns-in-148-2
 returns-9 c =
-    let m = c.before.before.before.before.before in
-    agrees 8 tt m.before.args.op (omega arith) (omega arith, (omega arith, m.match.rest))
+    agrees 8 tt c.before.args.op (omega arith) (omega arith, (omega arith, c.in-148.in_default-own.rest))
 
-returns-10 : tie.Need-returns-10
-returns-10 c = agrees 9 tt c.before.args.op (omega arith) c.match.keys2
+returns-10 : tie.Need-returns-in-129
+returns-10 c = agrees 9 tt c.before.args.op (omega arith) c.in-129.is
 
-returns-11 : tie.Need-returns-11
+returns-11 : tie.Need-returns-in-129-2
 returns-11 c =
-    let m = c.before.before.before in
-    agrees 10 tt m.before.args.op (omega arith) (omega arith, (omega arith, m.match.rest))
+    agrees 10 tt c.before.args.op (omega arith) (omega arith, (omega arith, c.in-129.in_default-own.rest))
 
-returns-12 : tie.Need-returns-12
+returns-12 : tie.Need-returns-in-129-3
 returns-12 c =
-    let m = c.before.before.before.before.before.before in
-    agrees 11 tt m.before.args.op (omega arith) (omega arith, (omega arith, m.match.rest))
+    agrees 11 tt c.before.args.op (omega arith) (omega arith, (omega arith, c.in-129.in_default-own.rest))
 
-returns-13 : tie.Need-returns-13
-returns-13 c = agrees 12 tt c.before.args.op (omega arith) c.match.keys1
+returns-13 : tie.Need-returns-in-128
+returns-13 c = agrees 12 tt c.before.args.op (omega arith) c.in-128.in-128-own.keys1
 
-returns-14 : tie.Need-returns-14
+returns-14 : tie.Need-returns-in-128-2
 returns-14 c =
-    let m = c.before.before in
-    agrees 13 tt m.before.args.op (omega arith) (omega arith, (omega arith, m.match.rest))
+    agrees 13 tt c.before.args.op (omega arith) (omega arith, (omega arith, c.in-128.in_default-own.rest))
 
-returns-15 : tie.Need-returns-15
+returns-15 : tie.Need-returns-in-128-3
 returns-15 c =
-    let m = c.before.before.before.before.before.before.before in
-    agrees 14 tt m.before.args.op (omega arith) (omega arith, (omega arith, m.match.rest))
+    agrees 14 tt c.before.args.op (omega arith) (omega arith, (omega arith, c.in-128.in_default-own.rest))
 
 pub data_length_spec : {M : Type 1} → statement M
 data_length_spec =

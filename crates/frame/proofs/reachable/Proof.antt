@@ -20,7 +20,7 @@ use Rattle.frame.proofs.reachable.Statement.{statement}
 use Rattle.frame.proofs.reachable.Tie as tie
 
 -- the frame that is asked about
-abbrev asked : tie.After-clear-from → Partial
+abbrev asked : tie.After-clear_from → Partial
 asked c = c.before.before.before.args.p
 
 -- an array of the code is one of the definition
@@ -32,61 +32,61 @@ array c =
     array_true 35 l len each
 
 -- what the calls tell of it
-header_is : (c : tie.After-header-size) → c.header-size.result ≡ header_of (asked c.before.before.before).bytes
-header_is c = c.header-size.ensures ∙ ap header_size c.before.data_length.ensures
+header_is : (c : tie.After-header_size-header) → c.header_size-header.result ≡ header_of (asked c.before.before.before).bytes
+header_is c = c.header_size-header.ensures ∙ ap header_size c.before.data_length-length.ensures
 
-body_is : (c : tie.After-body-size) → c.body-size.result ≡ body_size (asked c.before.before.before.before.before.before).bytes
+body_is : (c : tie.After-body_size-body) → c.body_size-body.result ≡ body_size (asked c.before.before.before.before.before.before).bytes
 body_is c =
     let read = c.before.before.before.before in
-    c.body-size.ensures ∙ ap (λ (l : Length). body_size_as l (asked read.before.before).bytes) read.data_length.ensures
+    c.body_size-body.ensures ∙ ap (λ (l : Length). body_size_as l (asked read.before.before).bytes) read.data_length-length.ensures
 
-stores_is : (c : tie.After-stores-body)
-    → c.stores-body.result ≡ stores_body (asked c.before.before.before.before.before.before.before.before).bytes
+stores_is : (c : tie.After-stores_body)
+    → c.stores_body.result ≡ stores_body (asked c.before.before.before.before.before.before.before.before).bytes
 stores_is c =
     let read = c.before.before.before.before.before.before in
-    c.stores-body.ensures ∙ ap (λ (l : Length). stores_body_as l (asked read.before.before).bytes) read.data_length.ensures
+    c.stores_body.ensures ∙ ap (λ (l : Length). stores_body_as l (asked read.before.before).bytes) read.data_length-length.ensures
 
-unused : (c : tie.Else1) → reachable_of (asked c.before) ≡ remaining_right (asked c.before)
+unused : (c : tie.Else-not-clear_from) → reachable_of (asked c.before) ≡ remaining_right (asked c.before)
 unfolding reachable_of
-unused c = simp (array c.before.before.before.before, sym c.before.clear-from.ensures ∙ not-false _ c.if1.false)
+unused c = simp (array c.before.before.before.before, sym c.before.clear_from.ensures ∙ not-false _ c.if-not-clear_from.false-raw)
 
-header : (c : tie.Else2) → let p = asked c.before.before.before.before in reachable_of p ≡ body_begun p
-header c = unused c.before.before.before ∙ simp (le-ltb _ _ (rw (header_is c.before) at c.if2.false))
+header : (c : tie.Else-count-header) → let p = asked c.before.before.before.before in reachable_of p ≡ body_begun p
+header c = unused c.before.before.before ∙ simp (le-ltb _ _ (rw (header_is c.before) at c.if-count-header.false))
 
-body : (c : tie.Else4)
+body : (c : tie.Else-body-remaining)
     → let p = asked c.before.before.before.before.before.before.before in
     reachable_of p ≡ cond (stores_body p.bytes) (body_stored p) (header_alone p)
 body c =
     header c.before.before.before
-    ∙ simp (ne_eqb _ _ c.before.before.if3.false, le-leb _ _ (rw (body_is c.before) at c.if4.false))
+    ∙ simp (ne_eqb _ _ c.before.before.if-remaining-eq0.false, le-leb _ _ (rw (body_is c.before) at c.if-body-remaining.false))
 
-returns : tie.Need-returns
+returns : tie.Need-returns-then-not-clear_from
 unfolding reachable_of
-returns c = simp (array c.before.before.before.before, sym c.before.clear-from.ensures ∙ not-true _ c.if1.true)
+returns c = simp (array c.before.before.before.before, sym c.before.clear_from.ensures ∙ not-true _ c.if-not-clear_from.true-raw)
 
-returns-2 : tie.Need-returns-2
-returns-2 c = sym (unused c.before.before.before ∙ simp (lt-ltb _ _ (rw (header_is c.before) at c.if2.true)))
+returns-2 : tie.Need-returns-then-count-header
+returns-2 c = sym (unused c.before.before.before ∙ simp (lt-ltb _ _ (rw (header_is c.before) at c.if-count-header.true)))
 
-returns-3 : tie.Need-returns-3
-returns-3 c = sym (header c.before ∙ simp (eq-eqb _ _ c.if3.true))
+returns-3 : tie.Need-returns-then-remaining-eq0
+returns-3 c = sym (header c.before ∙ simp (eq-eqb _ _ c.if-remaining-eq0.true))
 
-returns-4 : tie.Need-returns-4
+returns-4 : tie.Need-returns-then-body-remaining
 returns-4 c =
     sym
     (header c.before.before.before
-    ∙ simp (ne_eqb _ _ c.before.before.if3.false, lt-leb _ _ (rw (body_is c.before) at c.if4.true)))
+    ∙ simp (ne_eqb _ _ c.before.before.if-remaining-eq0.false, lt-leb _ _ (rw (body_is c.before) at c.if-body-remaining.true)))
 
-returns-5 : tie.Need-returns-5
+returns-5 : tie.Need-returns-then-stores_body
 returns-5 c =
     let b = c.before.before in
     rw (body_is b.before, header_is b.before.before.before.before)
-    (sym (body b ∙ simp (sym (stores_is c.before) ∙ c.if5.true)))
+    (sym (body b ∙ simp (sym (stores_is c.before) ∙ c.if-stores_body.true)))
 
-returns-6 : tie.Need-returns-6
+returns-6 : tie.Need-returns-else-stores_body
 returns-6 c =
     let b = c.before.before in
     rw (header_is b.before.before.before.before)
-    (sym (body b ∙ simp (sym (stores_is c.before) ∙ c.if5.false)))
+    (sym (body b ∙ simp (sym (stores_is c.before) ∙ c.if-stores_body.false)))
 
 pub reachable_spec : {M : Type 1} → statement M
 reachable_spec =

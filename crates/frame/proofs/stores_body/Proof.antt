@@ -5,14 +5,14 @@ use borrow.Author.Tests.{ne_eqb, eq-eqb}
 use Rattle.frame.proofs.stores_body.Statement.{statement}
 use Rattle.frame.proofs.stores_body.Tie as tie
 
-returns-2 : tie.Need-returns-2
-returns-2 c = simp (c.before.enum-told2.given.1, ne_eqb _ _ c.if1.true)
+returns-2 : tie.Need-returns-then-bytes
+returns-2 c = simp (c.before.in-Counted.is, ne_eqb _ _ c.if-bytes.true)
 
-returns-3 : tie.Need-returns-3
-returns-3 c = simp (c.before.enum-told2.given.1, eq-eqb _ _ c.if1.false)
+returns-3 : tie.Need-returns-else-bytes
+returns-3 c = simp (c.before.in-Counted.is, eq-eqb _ _ c.if-bytes.false)
 
-returns-4 : tie.Need-returns-4
-returns-4 c = simp c.enum-told3.given.1
+returns-4 : tie.Need-returns-in-Song
+returns-4 c = simp c.in-Song.is
 
 pub stores_body_spec : {M : Type 1} → statement M
 stores_body_spec =

@@ -8,8 +8,8 @@ use Rattle.line.proofs.TextLaws.{hex_short}
 use Rattle.line.proofs.begins_hex.Statement.{statement}
 use Rattle.line.proofs.begins_hex.Tie as tie
 
-returns-3 : tie.Need-returns-3
-returns-3 c = lt-leb 2 (length c.before.args.word.now) c.if1.false ∙ sym (hex_short c.before.args.word.now c.if1.false)
+returns-3 : tie.Need-returns-else-word-ge2
+returns-3 c = lt-leb 2 (length c.before.args.word.now) c.if-word-ge2.false ∙ sym (hex_short c.before.args.word.now c.if-word-ge2.false)
 
 pub begins_hex_spec : {M : Type 1} → statement M
 begins_hex_spec =
@@ -17,6 +17,6 @@ begins_hex_spec =
     (tie.spec
     (λ c. search rules)
     (λ c. search rules)
-    (λ c. simp (eq-eqb _ _ c.before.if2.true))
-    (λ c. simp (ne_eqb _ _ c.if2.false))
+    (λ c. simp (eq-eqb _ _ c.before.if-word-eq48.true))
+    (λ c. simp (ne_eqb _ _ c.if-word-eq48.false))
     returns-3)

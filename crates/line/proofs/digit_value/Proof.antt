@@ -7,37 +7,37 @@ use Rattle.line.proofs.TextLaws.{inside, below, above}
 use Rattle.line.proofs.digit_value.Statement.{statement}
 use Rattle.line.proofs.digit_value.Tie as tie
 
-returns : tie.Need-returns
-returns c = let b = c.before.before.args.b in sym (simp (inside 48 57 b (omega arith) (omega arith)))
+returns : tie.Need-returns-in-48-to-57
+returns c = let b = c.before.args.b in sym (simp (inside 48 57 b (omega arith) (omega arith)))
 
-returns-2 : tie.Need-returns-2
+returns-2 : tie.Need-returns-in-65-to-70
 returns-2 c =
-    let b = c.before.before.before.before.args.b in
+    let b = c.before.args.b in
     sym (simp (above 48 57 b (omega arith), inside 65 70 b (omega arith) (omega arith)))
 
-returns-3 : tie.Need-returns-3
+returns-3 : tie.Need-returns-in-97-to-102
 returns-3 c =
-    let b = c.before.before.before.before.before.before.args.b in
+    let b = c.before.args.b in
     sym (simp (above 48 57 b (omega arith), above 65 70 b (omega arith), inside 97 102 b (omega arith) (omega arith)))
 
-returns-4 : tie.Need-returns-4
+returns-4 : tie.Need-returns-in_default
 returns-4 c =
     let b = c.before.args.b in
     sym (simp (below 48 57 b (omega arith), below 65 70 b (omega arith), below 97 102 b (omega arith)))
 
-returns-5 : tie.Need-returns-5
+returns-5 : tie.Need-returns-in_default-2
 returns-5 c =
-    let b = c.before.before.before.args.b in
+    let b = c.before.args.b in
     sym (simp (above 48 57 b (omega arith), below 65 70 b (omega arith), below 97 102 b (omega arith)))
 
-returns-6 : tie.Need-returns-6
+returns-6 : tie.Need-returns-in_default-3
 returns-6 c =
-    let b = c.before.before.before.before.before.args.b in
+    let b = c.before.args.b in
     sym (simp (above 48 57 b (omega arith), above 65 70 b (omega arith), below 97 102 b (omega arith)))
 
-returns-7 : tie.Need-returns-7
+returns-7 : tie.Need-returns-in_default-4
 returns-7 c =
-    let b = c.before.before.before.before.before.before.args.b in
+    let b = c.before.args.b in
     sym (simp (above 48 57 b (omega arith), above 65 70 b (omega arith), above 97 102 b (omega arith)))
 
 pub digit_value_spec : {M : Type 1} → statement M

@@ -8,6 +8,6 @@ pub is_blank_spec : {M : Type 1} → statement M
 is_blank_spec =
     tie.close
     (tie.spec
-    (λ c. simp (eq-eqb _ _ c.if1.true))
-    (λ c. simp (ne_eqb _ _ c.before.if1.false, eq-eqb _ _ c.if2.true))
-    (λ c. simp (ne_eqb _ _ c.before.if1.false, ne_eqb _ _ c.if2.false)))
+    (λ c. simp (eq-eqb _ _ c.if-b-eq32.true))
+    (λ c. simp (ne_eqb _ _ c.before.if-b-eq32.false, eq-eqb _ _ c.if-b-eq9.true))
+    (λ c. simp (ne_eqb _ _ c.before.if-b-eq32.false, ne_eqb _ _ c.if-b-eq9.false)))

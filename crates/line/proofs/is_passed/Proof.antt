@@ -13,6 +13,6 @@ is_passed_spec =
     (tie.spec
     (λ c κs. search rules)
     (λ c κs. search rules)
-    (λ c. c.is-blank.ensures ∙ sym (simp c.before.match.keys1))
-    (λ c. ap not c.is-blank2.ensures ∙ sym (simp c.before.match.keys2))
-    (λ c. sym (simp (ne_eqb c.before.args.kind 0 c.match.rest.0.1, ne_eqb c.before.args.kind 1 c.match.rest.1))))
+    (λ c. c.is_blank.ensures ∙ sym (simp c.before.in-0.is))
+    (λ c. ap not c.is_blank-in-1.ensures ∙ sym (simp c.before.in-1.is))
+    (λ c. sym (simp (ne_eqb c.before.args.kind 0 c.in_default.in_default-own.rest.0.1, ne_eqb c.before.args.kind 1 c.in_default.in_default-own.rest.1))))

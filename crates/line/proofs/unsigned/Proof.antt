@@ -12,14 +12,14 @@ use Rattle.line.proofs.unsigned.Statement.{statement}
 use Rattle.line.proofs.unsigned.Tie as tie
 
 -- 0x is there, and what follows it can be lent
-module _ (c : tie.Then1) where
+module _ (c : tie.Then-begins_hex) where
   hex : begins_hex c.before.before.before.args.word.now ≡ true
-  hex = sym c.before.begins-hex.ensures ∙ c.if1.true
+  hex = sym c.before.begins_hex.ensures ∙ c.if-begins_hex.true
 
   two : 2 ≤ length c.before.before.before.args.word.now
   two = hex_length c.before.before.before.args.word.now hex
 
-returns : tie.Need-returns
+returns : tie.Need-returns-then-begins_hex
 returns c =
     let word = c.before.before.before.before.before.args.word.now in
     let x : c.numeral.result ≡ numeral_of 16 (take (length word - 2) (drop 2 word)) = c.numeral.ensures in
@@ -27,11 +27,11 @@ returns c =
     ∙ ap (numeral_of 16) (rest_is word 2)
     ∙ sym (cond-true (begins_hex word) (numeral_of 16 (drop 2 word)) (numeral_of 10 word) (hex c.before.before))
 
-returns-2 : tie.Need-returns-2
+returns-2 : tie.Need-returns
 returns-2 c =
     let word = c.before.before.before.before.args.word.now in
-    let e : begins_hex word ≡ false = sym c.before.before.begins-hex.ensures ∙ c.before.if1.false in
-    let x : c.numeral2.result ≡ numeral_of 10 word = c.numeral2.ensures in
+    let e : begins_hex word ≡ false = sym c.before.before.begins_hex.ensures ∙ c.before.if-begins_hex.false in
+    let x : c.numeral-2.result ≡ numeral_of 10 word = c.numeral-2.ensures in
     x ∙ sym (cond-false (begins_hex word) (numeral_of 16 (drop 2 word)) (numeral_of 10 word) e)
 
 pub unsigned_spec : {M : Type 1} → statement M

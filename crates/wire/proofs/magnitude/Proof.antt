@@ -8,16 +8,16 @@ use Rattle.wire.proofs.SignedLaws.{below, raised_fits, raised_held, raised_cast,
 use Rattle.wire.proofs.magnitude.Statement.{statement}
 use Rattle.wire.proofs.magnitude.Tie as tie
 
-add-result : tie.Need-overflow-add-result
-add-result c = rw (raised_held _ c.before.ranges.n c.if1.true) (omega (arith, c.before.ranges.n.sfits))
+add-result : tie.Need-overflow_add-result
+add-result c = rw (raised_held _ c.before.ranges.n c.if-n-lt0.true) (omega (arith, c.before.ranges.n.sfits))
 
-returns : tie.Need-returns
+returns : tie.Need-returns-then-n-lt0
 returns c =
     let f = c.before.ranges.n in
-    rw (raised_held _ f c.if1.true) (omega (arith, sym (ap nat_abs (below _ f c.if1.true))))
+    rw (raised_held _ f c.if-n-lt0.true) (omega (arith, sym (ap nat_abs (below _ f c.if-n-lt0.true))))
 
 pub magnitude_spec : {M : Type 1} → statement M
 magnitude_spec =
     tie.close
-    (tie.spec (λ c. raised_fits _ c.before.ranges.n c.if1.true) (λ c. raised_cast _ c.before.ranges.n c.if1.true) add-result returns
-    (λ c. above_cast _ c.before.ranges.n c.if1.false) (λ c. search rules))
+    (tie.spec (λ c. raised_fits _ c.before.ranges.n c.if-n-lt0.true) (λ c. raised_cast _ c.before.ranges.n c.if-n-lt0.true) add-result returns
+    (λ c. above_cast _ c.before.ranges.n c.if-n-lt0.false) (λ c. search rules))

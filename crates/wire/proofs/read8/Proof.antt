@@ -10,14 +10,14 @@ use Rattle.wire.proofs.SignedLaws.{flipped_fits, flipped_held, signed_low, signe
 use Rattle.wire.proofs.read8.Statement.{statement}
 use Rattle.wire.proofs.read8.Tie as tie
 
-returns : tie.Need-returns
-returns c = to_z_pos w8 c.if1.true ∙ sym (signed_low 128 _ c.if1.true)
+returns : tie.Need-returns-then-b-lt128
+returns c = to_z_pos w8 c.if-b-lt128.true ∙ sym (signed_low 128 _ c.if-b-lt128.true)
 
-sub-result : tie.Need-overflow-sub-result
+sub-result : tie.Need-overflow_sub-result
 sub-result c = flipped_fits w8 (255 - c.before.args.b) (omega arith)
 
-returns-2 : tie.Need-returns-2
-returns-2 c = flipped_held w8 (255 - c.before.args.b) (omega arith) ∙ sym (signed_high 128 c.before.args.b c.if1.false)
+returns-2 : tie.Need-returns
+returns-2 c = flipped_held w8 (255 - c.before.args.b) (omega arith) ∙ sym (signed_high 128 c.before.args.b c.if-b-lt128.false)
 
 pub read8_spec : {M : Type 1} → statement M
 read8_spec = tie.close (tie.spec (λ c. search rules) returns (λ c. search rules) (λ c. search rules) sub-result returns-2)
