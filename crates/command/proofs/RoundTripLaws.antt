@@ -63,35 +63,35 @@ notes_le song notes rule t =
 
 laid : (c : Command) (p : List ℕ) → Fit (form_of c).items → T (legal_of (message c p)) → Laid c
 unfolding data_length command_of row_of legal_of
-laid Start p f t = laid_as tt (λ r. refl) (λ r. refl) (λ r. refl)
-laid (Baud code) p f t = laid_as tt (λ r. refl) (λ r. refl) (λ r. refl)
-laid Control p f t = laid_as tt (λ r. refl) (λ r. refl) (λ r. refl)
-laid Safe p f t = laid_as tt (λ r. refl) (λ r. refl) (λ r. refl)
-laid Full p f t = laid_as tt (λ r. refl) (λ r. refl) (λ r. refl)
-laid Power p f t = laid_as tt (λ r. refl) (λ r. refl) (λ r. refl)
-laid (Demo demo) p f t = laid_as tt (λ r. ap Demo ((round_trip_bits 128).read_written demo f.0.sfits)) (λ r. refl) (λ r. refl)
-laid Spot p f t = laid_as tt (λ r. refl) (λ r. refl) (λ r. refl)
-laid Cover p f t = laid_as tt (λ r. refl) (λ r. refl) (λ r. refl)
-laid Dock p f t = laid_as tt (λ r. refl) (λ r. refl) (λ r. refl)
-laid (Drive v w) p f t = laid_as tt (λ r. ap₂ Drive (round_trip16.read_written v f.0) (round_trip16.read_written w f.1.0)) (λ r. refl) (λ r. refl)
-laid (Direct v w) p f t = laid_as tt (λ r. ap₂ Direct (round_trip16.read_written v f.0) (round_trip16.read_written w f.1.0)) (λ r. refl) (λ r. refl)
-laid (Drivers bits) p f t = laid_as tt (λ r. refl) (λ r. refl) (λ r. refl)
-laid (Duties a b d) p f t = laid_as tt (λ r. refl) (λ r. refl) (λ r. refl)
-laid (Leds a b d) p f t = laid_as tt (λ r. refl) (λ r. refl) (λ r. refl)
-laid (Outputs bits) p f t = laid_as tt (λ r. refl) (λ r. refl) (λ r. refl)
-laid (Infrared code) p f t = laid_as tt (λ r. refl) (λ r. refl) (λ r. refl)
+laid Start p f t = laid_as {c = Start} tt (λ r. refl) (λ r. refl) (λ r. refl)
+laid (Baud code) p f t = laid_as {c = Baud code} tt (λ r. refl) (λ r. refl) (λ r. refl)
+laid Control p f t = laid_as {c = Control} tt (λ r. refl) (λ r. refl) (λ r. refl)
+laid Safe p f t = laid_as {c = Safe} tt (λ r. refl) (λ r. refl) (λ r. refl)
+laid Full p f t = laid_as {c = Full} tt (λ r. refl) (λ r. refl) (λ r. refl)
+laid Power p f t = laid_as {c = Power} tt (λ r. refl) (λ r. refl) (λ r. refl)
+laid (Demo demo) p f t = laid_as {c = Demo demo} tt (λ r. ap Demo ((round_trip_bits 128).read_written demo f.0.sfits)) (λ r. refl) (λ r. refl)
+laid Spot p f t = laid_as {c = Spot} tt (λ r. refl) (λ r. refl) (λ r. refl)
+laid Cover p f t = laid_as {c = Cover} tt (λ r. refl) (λ r. refl) (λ r. refl)
+laid Dock p f t = laid_as {c = Dock} tt (λ r. refl) (λ r. refl) (λ r. refl)
+laid (Drive v w) p f t = laid_as {c = Drive v w} tt (λ r. ap₂ Drive (round_trip16.read_written v f.0) (round_trip16.read_written w f.1.0)) (λ r. refl) (λ r. refl)
+laid (Direct v w) p f t = laid_as {c = Direct v w} tt (λ r. ap₂ Direct (round_trip16.read_written v f.0) (round_trip16.read_written w f.1.0)) (λ r. refl) (λ r. refl)
+laid (Drivers bits) p f t = laid_as {c = Drivers bits} tt (λ r. refl) (λ r. refl) (λ r. refl)
+laid (Duties a b d) p f t = laid_as {c = Duties a b d} tt (λ r. refl) (λ r. refl) (λ r. refl)
+laid (Leds a b d) p f t = laid_as {c = Leds a b d} tt (λ r. refl) (λ r. refl) (λ r. refl)
+laid (Outputs bits) p f t = laid_as {c = Outputs bits} tt (λ r. refl) (λ r. refl) (λ r. refl)
+laid (Infrared code) p f t = laid_as {c = Infrared code} tt (λ r. refl) (λ r. refl) (λ r. refl)
 laid (Song song notes) p f t =
     let h = notes_le song notes (all_bytes (take (2 * stored_count notes) p)) t in
-    laid_as tt (λ r. refl) (λ r. omega (arith, stored_all notes h)) (λ r. le-leb notes 16 h)
-laid (Play song) p f t = laid_as tt (λ r. refl) (λ r. refl) (λ r. refl)
-laid (Sensors id) p f t = laid_as tt (λ r. refl) (λ r. refl) (λ r. refl)
+    laid_as {c = Song song notes} tt (λ r. refl) (λ r. omega (arith, stored_all notes h)) (λ r. le-leb notes 16 h)
+laid (Play song) p f t = laid_as {c = Play song} tt (λ r. refl) (λ r. refl) (λ r. refl)
+laid (Sensors id) p f t = laid_as {c = Sensors id} tt (λ r. refl) (λ r. refl) (λ r. refl)
 laid (QueryList ids) p f t =
     let h = leb→le ids 16 (and_yes (leb ids 16) (listable_of (take ids p)) (subst T (query_legal ids p) t)).0 in
-    laid_as tt (λ r. refl) (λ r. omega (arith, stored_all ids h)) (λ r. le-leb ids 16 h)
+    laid_as {c = QueryList ids} tt (λ r. refl) (λ r. omega (arith, stored_all ids h)) (λ r. le-leb ids 16 h)
 laid (Stream ids) p f t =
     let h = leb→le ids 16 (and_yes (leb ids 16) (streamable_of (take ids p)) (subst T (stream_legal_lem ids p) t)).0 in
-    laid_as tt (λ r. refl) (λ r. omega (arith, stored_all ids h)) (λ r. le-leb ids 16 h)
-laid (Pause on) p f t = laid_as tt (λ r. refl) (λ r. refl) (λ r. refl)
+    laid_as {c = Stream ids} tt (λ r. refl) (λ r. omega (arith, stored_all ids h)) (λ r. le-leb ids 16 h)
+laid (Pause on) p f t = laid_as {c = Pause on} tt (λ r. refl) (λ r. refl) (λ r. refl)
 laid (Unknown op) p f t = absurd t
 laid (NotOffered op) p f t = absurd t
 

@@ -52,29 +52,26 @@ cases = case 147 158 2 ∷ case 0 146 1 ∷ case 159 255 1 ∷ []
 abbrev at : ℕ → Case ℕ
 at i = get_or cases i (case 0 0 0)
 
-is_byte : (c : tie.In_default-1) → get_or c.before.args.bytes 0 0 < 256
-is_byte c = let f : Fits w8 (get_or c.before.args.bytes 0 0) = search rules in omega arith
+is_byte : (c : tie.Start) → get_or c.args.bytes 0 0 < 256
+is_byte c = let f : Fits w8 (get_or c.args.bytes 0 0) = search rules in omega arith
 
 sorted : (i : ℕ) → i < 3 → (op : ℕ) → op < 256 → Taken singles (at i).arm op → (at i).gives ≡ sort op
 sorted i h op k = by_cases eqb eqb→eq sort singles cases 256 tt (case 0 0 0) i op h k
 
 returns-24 : tie.Need-returns-in-152-to-158
 returns-24 c =
-    
     let l = c.before.args.bytes in
-    not_offered l (sorted 0 (omega arith) (get_or l 0 0) (is_byte m) (omega arith, (omega arith, c.in-152-to-158.in_default-own.rest)))
+    not_offered l (sorted 0 (omega arith) (get_or l 0 0) (is_byte c.before) (omega arith, (omega arith, c.in-152-to-158.in_default-own.rest)))
 
 returns-25 : tie.Need-returns-in_default
 returns-25 c =
-    
     let l = c.before.args.bytes in
-    unknown l (sorted 1 (omega arith) (get_or l 0 0) (is_byte m) (omega arith, (omega arith, c.in_default.in_default-own.rest)))
+    unknown l (sorted 1 (omega arith) (get_or l 0 0) (is_byte c.before) (omega arith, (omega arith, c.in_default.in_default-own.rest)))
 
 returns-26 : tie.Need-returns-in_default-2
 returns-26 c =
-    
     let l = c.before.args.bytes in
-    unknown l (sorted 2 (omega arith) (get_or l 0 0) (is_byte m) (omega arith, (omega (arith, is_byte m), c.in_default.in_default-own.rest)))
+    unknown l (sorted 2 (omega arith) (get_or l 0 0) (is_byte c.before) (omega arith, (omega (arith, is_byte c.before), c.in_default.in_default-own.rest)))
 
 pub command_of_spec : {M : Type 1} → statement M
 command_of_spec =

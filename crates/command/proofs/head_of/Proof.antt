@@ -16,26 +16,23 @@ use Rattle.command.proofs.head_of.Tie as tie
 
 demo : tie.Need-returns-in-Demo
 demo c =
-    let e = c.before.before.before.command-in-Demo-1.given in
-    let f : SFits w8 e.0.0 = record { sfits = c.before.before.before.in-Demo.known_told-in-Demo-1-own.given.0.1 } in
+    let f : SFits w8 c.before.before.before.in-Demo.demo = record { sfits = c.before.before.before.in-Demo.known_told-in-Demo-1-own.given.0.1 } in
     let b = (rw (widened w16 tt f c.before.before.widen.ensures) at c.before.low16.ensures) ∙ round_trip16.low_of_byte _ f in
-    head_as (c.head1-in-Demo.ensures ∙ ap (λ (b : ℕ). headed (136 ∷ b ∷ [])) b) e.1
+    head_as (c.head1-in-Demo.ensures ∙ ap (λ (b : ℕ). headed (136 ∷ b ∷ [])) b) c.before.before.before.in-Demo.is
 
 words : tie.Need-returns-in-Drive
 words c =
     let f = c.before.in-Drive.known_told-in-Drive-1-own.given in
-    let e = c.before.command-in-Drive-1.given in
-    let a = to_z-of_z w16 e.0.0 (record { sfits = f.0.1 }) in
-    let b = to_z-of_z w16 e.0.1.0 (record { sfits = f.1.0.1 }) in
-    head_as (rw (a, b) at c.head_words.ensures) e.1
+    let a = to_z-of_z w16 c.before.in-Drive.velocity (record { sfits = f.0.1 }) in
+    let b = to_z-of_z w16 c.before.in-Drive.radius (record { sfits = f.1.0.1 }) in
+    head_as (rw (a, b) at c.head_words.ensures) c.before.in-Drive.is
 
 words-2 : tie.Need-returns-in-Direct
 words-2 c =
     let f = c.before.in-Direct.known_told-in-Direct-1-own.given in
-    let e = c.before.command-in-Direct-1.given in
-    let a = to_z-of_z w16 e.0.0 (record { sfits = f.0.1 }) in
-    let b = to_z-of_z w16 e.0.1.0 (record { sfits = f.1.0.1 }) in
-    head_as (rw (a, b) at c.head_words-in-Direct.ensures) e.1
+    let a = to_z-of_z w16 c.before.in-Direct.right (record { sfits = f.0.1 }) in
+    let b = to_z-of_z w16 c.before.in-Direct.left (record { sfits = f.1.0.1 }) in
+    head_as (rw (a, b) at c.head_words-in-Direct.ensures) c.before.in-Direct.is
 
 pub head_of_spec : {M : Type 1} → statement M
 head_of_spec =

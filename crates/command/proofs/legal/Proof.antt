@@ -31,14 +31,14 @@ use Rattle.command.proofs.legal.Tie as tie
 
 -- the message that is judged
 abbrev asked : tie.After-used-1 → Message
-asked c = c.before.before.before.before.args.message
+asked c = c.args.message
 
-part-used-end : tie.Need-slice-bounds-used-end
+part-used-end : tie.Need-slice_bounds-used-end
 part-used-end c =
-    let start = c.before.before.before in
+    let start = c in
     let l : length start.args.message.payload ≡ 32 = search rules in
     let s = small start.args.message.command in
-    let x : c.before.payload-size.result ≤ length start.args.message.payload = omega (arith, s.1.0, c.before.payload-size.ensures) in
+    let x : c.payload_size-n.result ≤ length start.args.message.payload = omega (arith, s.1.0, c.payload_size-n.ensures) in
     x
 
 -- the array's elements are bytes
@@ -59,10 +59,9 @@ module _ (m : Message) {v w : ℤ} where
 -- a Demo's number, tested in sixteen bits
 returns-2 : tie.Need-returns-in-Demo
 returns-2 c =
-    let e = c.before.before.command-in-Demo-1.given in
     let m = asked c.before.before.before in
-    let f : SFits w8 e.0.0 = record { sfits = c.before.before.in-Demo.known_told-in-Demo-1-own.given.0.1 } in
-    (rw (widened w16 tt f c.before.widen.ensures) at c.is_in.ensures) ∙ sym (demo_tested _ m.payload) ∙ legal_as m e.1
+    let f : SFits w8 c.before.before.in-Demo.demo = record { sfits = c.before.before.in-Demo.known_told-in-Demo-1-own.given.0.1 } in
+    (rw (widened w16 tt f c.before.widen.ensures) at c.is_in.ensures) ∙ sym (demo_tested _ m.payload) ∙ legal_as m c.before.before.in-Demo.is
 
 velocity : (c : tie.After-is_speed) → c.is_speed.result ≡ is_legal speed c.before.in-Drive.velocity
 velocity c = signed speed (record { sfits = c.before.in-Drive.known_told-in-Drive-1-own.given.0.1 }) c.is_speed.ensures
@@ -100,58 +99,50 @@ duties m {a} {b} {d} e = sym (duties_legal_lem a b d m.payload) ∙ legal_as m e
 
 returns-8 : tie.Need-returns-then-driver1-le-FULL_DUTY
 returns-8 c =
-    let e = c.before.before.command-in-Duties-1.given in
     third_of_three _ (le-leb _ _ c.before.if-driver2-le-FULL_DUTY.true) (le-leb _ _ c.if-driver1-le-FULL_DUTY.true)
-    ∙ duties (asked c.before.before.before) e.1
+    ∙ duties (asked c.before.before.before) c.before.before.in-Duties.is
 
 returns-9 : tie.Need-returns-else-driver1-le-FULL_DUTY
 returns-9 c =
-    let e = c.before.before.command-in-Duties-1.given in
     second_of_three _ (le-leb _ _ c.before.if-driver2-le-FULL_DUTY.true) (lt-leb _ _ c.if-driver1-le-FULL_DUTY.false)
-    ∙ duties (asked c.before.before.before) e.1
+    ∙ duties (asked c.before.before.before) c.before.before.in-Duties.is
 
 returns-10 : tie.Need-returns-else-driver2-le-FULL_DUTY
 returns-10 c =
-    let e = c.before.command-in-Duties-1.given in
-    first_decides _ (lt-leb _ _ c.if-driver2-le-FULL_DUTY.false) ∙ duties (asked c.before.before) e.1
+    first_decides _ (lt-leb _ _ c.if-driver2-le-FULL_DUTY.false) ∙ duties (asked c.before.before) c.before.in-Duties.is
 
 returns-11 : tie.Need-returns-in-Leds
 unfolding row_of legal_of
 returns-11 c =
-    let e = c.command-in-Leds-1.given in
-    let f : Fits w8 e.0.0 = search rules in
-    let g : Fits w8 e.0.1.0 = search rules in
-    let h : Fits w8 e.0.1.1.0 = search rules in
-    let d : (leb e.0.0 255 && (leb e.0.1.0 255 && leb e.0.1.1.0 255)) ≡ true =
-    simp (le-leb e.0.0 255 (omega arith), le-leb e.0.1.0 255 (omega arith), le-leb e.0.1.1.0 255 (omega arith)) in
-    sym d ∙ bytes_legal 255 _ _ _ ∙ legal_as (asked c.before) e.1
+    let f : Fits w8 c.in-Leds._bits = search rules in
+    let g : Fits w8 c.in-Leds._color = search rules in
+    let h : Fits w8 c.in-Leds._intensity = search rules in
+    let d : (leb c.in-Leds._bits 255 && (leb c.in-Leds._color 255 && leb c.in-Leds._intensity 255)) ≡ true =
+    simp (le-leb c.in-Leds._bits 255 (omega arith), le-leb c.in-Leds._color 255 (omega arith), le-leb c.in-Leds._intensity 255 (omega arith)) in
+    sym d ∙ bytes_legal 255 _ _ _ ∙ legal_as (asked c.before) c.in-Leds.is
 
 returns-13 : tie.Need-returns-in-Infrared
 unfolding row_of legal_of
 returns-13 c =
-    let e = c.command-in-Infrared-1.given in
-    let f : Fits w8 e.0.0 = search rules in
-    sym (le-leb e.0.0 255 (omega arith)) ∙ byte_legal 255 _ ∙ legal_as (asked c.before) e.1
+    let f : Fits w8 c.in-Infrared._code = search rules in
+    sym (le-leb c.in-Infrared._code 255 (omega arith)) ∙ byte_legal 255 _ ∙ legal_as (asked c.before) c.in-Infrared.is
 
 -- a song's number and length, as they are tested
 song : (c : tie.After-used-1) {n notes : ℕ} → (asked c).command ≡ Song n notes → (leb n 15 && (leb 1 notes && leb notes 16)) ≡ legal_of (asked c)
 song c {n} {notes} e =
-    sym (song_is n notes (asked c).payload (any_notes c.before.before.before.before)) ∙ legal_as (asked c) e
+    sym (song_is n notes (asked c).payload (any_notes c.before.before.before)) ∙ legal_as (asked c) e
 
 returns-14 : tie.Need-returns-then-notes-ge1
 returns-14 c =
-    let e = c.before.before.command-in-Song-1.given in
-    third_of_three _ (le-leb _ _ c.before.if-song-le-LAST_SONG.true) (le-leb _ _ c.if-notes-ge1.true) ∙ song c.before.before.before e.1
+    third_of_three _ (le-leb _ _ c.before.if-song-le-LAST_SONG.true) (le-leb _ _ c.if-notes-ge1.true) ∙ song c.before.before.before c.before.before.in-Song.is
 
 returns-15 : tie.Need-returns-else-notes-ge1
 returns-15 c =
-    let e = c.before.before.command-in-Song-1.given in
-    second_of_three _ (le-leb _ _ c.before.if-song-le-LAST_SONG.true) (lt-leb _ _ c.if-notes-ge1.false) ∙ song c.before.before.before e.1
+    second_of_three _ (le-leb _ _ c.before.if-song-le-LAST_SONG.true) (lt-leb _ _ c.if-notes-ge1.false) ∙ song c.before.before.before c.before.before.in-Song.is
 
 returns-16 : tie.Need-returns-else-song-le-LAST_SONG
 returns-16 c =
-    let e = c.before.command-in-Song-1.given in
-    first_decides _ (lt-leb _ _ c.if-song-le-LAST_SONG.false) ∙ song c.before.before e.1
+    first_decides _ (lt-leb _ _ c.if-song-le-LAST_SONG.false) ∙ song c.before.before c.before.in-Song.is
 
 -- a list's count, and the rule for its ids
 module _ (m : Message) {ids : ℕ} where
@@ -168,9 +159,9 @@ module _ (m : Message) {ids : ℕ} where
       ∙ ids_legal ids (streamable_of (take (stored_count ids) m.payload)) ∙ legal_as m e
 
 -- what is lent is the places in use
-in_use : (c : tie.After-used-1) → take (c.before.before.payload-size.result - 0) (asked c).payload ≡ payload_in (asked c)
+in_use : (c : tie.After-used-1) → take (c.payload_size-n.result - 0) (asked c).payload ≡ payload_in (asked c)
 in_use c =
-    let size = c.before.before.payload-size in
+    let size = c.payload_size-n in
     ap (λ (n : ℕ). take n (asked c).payload) (sub-zero size.result ∙ size.ensures)
 
 returns-19 : tie.Need-returns-then-ids-le-LEGAL_COUNT

@@ -16,7 +16,7 @@ unfolding message_of
 returns c =
     let start = c.before.before.before in
     ap (λ (x : Command). message x start.args.fields.payload)
-    (c.before.command_of-command.ensures ∙ ap command_of c.before.before.Opening-of.ensures)
+    (c.before.command_of-command.ensures ∙ ap command_of c.before.before.opening_of.ensures)
 
 pub message_of_spec : {M : Type 1} → statement M
 message_of_spec = tie.close (tie.spec (λ c κs. search rules) (λ c κs. search rules) returns)

@@ -18,7 +18,7 @@ use Rattle.command.proofs.opening_of.Statement.{statement}
 use Rattle.command.proofs.opening_of.Tie as tie
 
 has_words : (c : tie.Joined-then-op) → two_words c.before.args.fields.opcode ≡ true
-has_words c = ⊎_elim (λ w. simp (eq-eqb _ _ w.true)) (λ w. simp (ne_eqb _ _ w.0.false, w.1.true)) c.then-op.branch-raw
+has_words c = ⊎_elim (λ w. simp (eq-eqb _ _ w.if-op.true)) (λ w. simp (ne_eqb _ _ w.if-op.false, w.if-op-2.true)) c.then-op.branch-raw
 
 -- the five bytes, one by one
 words_open : (f : Fields) {a b c d : ℕ} → two_words f.opcode ≡ true → a ≡ high16_of f.first → b ≡ low16_of f.first

@@ -69,11 +69,11 @@ put-part-requires-2 c κs =
     let start = head.before.before.before.before.before in
     let s = small start.args.message.command in
     let n = size.payload_size-size.result in
-    let same = put.put_part-next.auto.1.1.1.0 in
+    let same = put.put_part-next.auto.buffer in
     let h = head.head_of-head.result in
     let at : put.put_part-next.result ≤ h.size = omega (arith, put.put_part-next.ensures.next, length-take h.size h.bytes) in
     let x : 0 + n ≤ length start.args.message.payload = omega (arith, array start, s.1.0, size.payload_size-size.ensures) in
-    let y : put.put_part-next.result + n ≤ length put.put_part-next.new.1.1.1.0 = omega (arith, room.if-head-size.false) in
+    let y : put.put_part-next.result + n ≤ length put.put_part-next.new.buffer = omega (arith, room.if-head-size.false) in
     (x, y)
 
 returns-3 : tie.Need-returns
