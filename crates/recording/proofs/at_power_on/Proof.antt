@@ -8,7 +8,7 @@ use Rattle.recording.proofs.at_power_on.Statement.{statement}
 use Rattle.recording.proofs.at_power_on.Tie as tie
 
 returns : tie.Need-returns
-returns c = ap (λ (s : State). record { state = s; image = no_image }) c.power_on_lem.ensures
+returns c = ap (λ (s : State). record { state = s; image = no_image }) c.power_on.ensures
 
 pub at_power_on_spec : {M : Type 1} → statement M
 at_power_on_spec = tie.close (tie.spec (λ c κs. search rules) returns)

@@ -41,12 +41,12 @@ at_rest : (c : tie.Then2)
     motors_ok a.mode a.motors ≡ ((order_named a.motors && wheels_legal a.motors) && duties_legal a.motors)
 at_rest c =
     tested c.before.before.before
-    ∙ simp (le-leb _ _ c.before.before.if1.true, sym c.before.off_unless_driven_lem.ensures ∙ c.if2.true)
+    ∙ simp (le-leb _ _ c.before.before.if1.true, sym c.before.off_unless_driven.ensures ∙ c.if2.true)
 
 returns : tie.Need-returns
 returns c =
     let wheels = c.before.before in
-    c.duties_legal_lem.ensures ∙ sym (at_rest wheels.before ∙ simp (sym wheels.wheels-ok.ensures ∙ c.before.if3.true))
+    c.duties_legal.ensures ∙ sym (at_rest wheels.before ∙ simp (sym wheels.wheels-ok.ensures ∙ c.before.if3.true))
 
 returns-2 : tie.Need-returns-2
 returns-2 c =
@@ -57,7 +57,7 @@ returns-3 : tie.Need-returns-3
 returns-3 c =
     let off = c.before in
     c.if2.false
-    ∙ sym (tested off.before.before ∙ simp (le-leb _ _ off.before.if1.true, sym off.off_unless_driven_lem.ensures ∙ c.if2.false))
+    ∙ sym (tested off.before.before ∙ simp (le-leb _ _ off.before.if1.true, sym off.off_unless_driven.ensures ∙ c.if2.false))
 
 returns-4 : tie.Need-returns-4
 returns-4 c = lt-leb _ _ c.if1.false ∙ sym (tested c.before ∙ simp (lt-leb _ _ c.if1.false))

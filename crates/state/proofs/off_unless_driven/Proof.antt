@@ -23,7 +23,7 @@ returns-2 c =
     let a = c.before.before.args in
     let f : Fits w8 a.mode = search rules in
     let h : a.mode < 256 = omega arith in
-    c.motors_off_lem.ensures ∙ sym (unless_driven a.mode a.motors h ∙ simp (le-leb _ _ c.before.if1.false))
+    c.motors_off.ensures ∙ sym (unless_driven a.mode a.motors h ∙ simp (le-leb _ _ c.before.if1.false))
 
 pub off_unless_driven_spec : {M : Type 1} → statement M
 off_unless_driven_spec =

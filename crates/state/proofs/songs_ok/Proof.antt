@@ -26,7 +26,7 @@ abbrev decreases-loop : tie.decreases-loop
 decreases-loop selected table mask i₀ i = 16 - i
 
 sixteen : (c : tie.Start invariant-loop decreases-loop) → length c.args.songs.table ≡ 16
-sixteen c = sym (length-map c.args.songs.table _) ∙ c.well-formed.0.1.1.0.1.0.1
+sixteen c = sym (length-map c.args.songs.table _) ∙ c.well_formed.0.1.1.0.1.0.1
 
 returns : tie.Need-returns invariant-loop decreases-loop
 unfolding songs_ok

@@ -25,19 +25,19 @@ by_parts a b e f g h i = rw (e, f, g, h, i) refl
 -- what came of each part
 module _ (c : tie.After-struct-known2) where
   abbrev motors : Bool
-  motors = c.before.before.before.before.before.before.same_motors_lem.result
+  motors = c.before.before.before.before.before.before.same_motors.result
 
   abbrev kept : Bool
-  kept = c.before.before.before.before.before.same_kept_lem.result
+  kept = c.before.before.before.before.before.same_kept.result
 
   abbrev songs : Bool
-  songs = c.before.before.before.before.same_songs_lem.result
+  songs = c.before.before.before.before.same_songs.result
 
   abbrev stream : Bool
-  stream = c.before.before.before.same_stream_lem.result
+  stream = c.before.before.before.same_stream.result
 
   abbrev partial : Bool
-  partial = c.before.before.same_partial_lem.result
+  partial = c.before.before.same_partial.result
 
   abbrev whole : Bool
   whole = let x = c.before.before.before.before.before.before.before.args in same_state x.a x.b
@@ -46,8 +46,8 @@ module _ (c : tie.After-struct-known2) where
       whole ≡ (eqb x.a.mode x.b.mode && (motors && (kept && (songs && (stream && partial)))))
   parts =
       let x = c.before.before.before.before.before.before.before.args in
-      by_parts x.a x.b c.before.before.before.before.before.before.same_motors_lem.ensures c.before.before.before.before.before.same_kept_lem.ensures
-      c.before.before.before.before.same_songs_lem.ensures c.before.before.before.same_stream_lem.ensures c.before.before.same_partial_lem.ensures
+      by_parts x.a x.b c.before.before.before.before.before.before.same_motors.ensures c.before.before.before.before.before.same_kept.ensures
+      c.before.before.before.before.same_songs.ensures c.before.before.before.same_stream.ensures c.before.before.same_partial.ensures
 
 -- with each part that is the same, what is left of the test grows shorter
 after_mode : (c : tie.Then1) → let k = c.before in whole k ≡ (motors k && (kept k && (songs k && (stream k && partial k))))

@@ -4,8 +4,8 @@ use mathlib.Core.Path.{◌≡◌, sym, ◌∙◌}
 use borrow.Author.Rules.{rules}
 use borrow.Author.Tests.{eq-eqb, ne_eqb}
 use Rattle.wire.specs.Lists.{same_list}
-use Rattle.state.proofs.compare.same_kept_lem.Statement.{statement}
-use Rattle.state.proofs.compare.same_kept_lem.Tie as tie
+use Rattle.state.proofs.compare.same_kept.Statement.{statement}
+use Rattle.state.proofs.compare.same_kept.Tie as tie
 
 -- what the first two tests tell
 same_leds : (c : tie.After-same) → c.same.result ≡ same_list c.before.before.before.before.before.before.before.before.args.a.leds c.before.before.before.before.before.before.before.before.args.b.leds

@@ -7,13 +7,13 @@ use Rattle.state.proofs.compare.same_songs.Statement.{statement}
 use Rattle.state.proofs.compare.same_songs.Tie as tie
 
 returns : tie.Need-returns
-returns c = simp (sym c.before.before.before.before.before.before.same_table_lem.ensures ∙ c.before.before.before.before.before.if1.true, eq-eqb _ _ c.before.before.if2.true)
+returns c = simp (sym c.before.before.before.before.before.before.same_table.ensures ∙ c.before.before.before.before.before.if1.true, eq-eqb _ _ c.before.before.if2.true)
 
 returns-2 : tie.Need-returns-2
-returns-2 c = simp (sym c.before.before.before.before.same_table_lem.ensures ∙ c.before.before.before.if1.true, ne_eqb _ _ c.if2.false)
+returns-2 c = simp (sym c.before.before.before.before.same_table.ensures ∙ c.before.before.before.if1.true, ne_eqb _ _ c.if2.false)
 
 returns-3 : tie.Need-returns-3
-returns-3 c = simp (sym c.before.same_table_lem.ensures ∙ c.if1.false, c.if1.false)
+returns-3 c = simp (sym c.before.same_table.ensures ∙ c.if1.false, c.if1.false)
 
 pub same_songs_spec : {M : Type 1} → statement M
 same_songs_spec =

@@ -29,7 +29,7 @@ module _ (c : tie.Start invariant-loop decreases-loop) where
   m = c.args.t2
 
   sixteen : (length l ≡ 16) × (length m ≡ 16)
-  sixteen = (c.well-formed.0.1.0.1, c.well-formed.1.0.1.0.1)
+  sixteen = (c.well_formed.0.1.0.1, c.well_formed.1.0.1.0.1)
 
 -- what a turn's test tells of what is left
 module _ (c : tie.After-same-song invariant-loop decreases-loop) where
@@ -38,20 +38,20 @@ module _ (c : tie.After-same-song invariant-loop decreases-loop) where
 
   turn : let i = at-loop.loop.i in
       let s = at-loop.before in
-      same_table (l s) (m s) ≡ (c.same_song_lem.result && same_table (drop (i + 1) (l s)) (drop (i + 1) (m s)))
+      same_table (l s) (m s) ≡ (c.same_song.result && same_table (drop (i + 1) (l s)) (drop (i + 1) (m s)))
   turn =
       let i = at-loop.loop.i in
       let s = at-loop.before in
       let h : i < length (l s) = omega (arith, (sixteen s).0, c.before.before.before.loop-test.true) in
       let k : i < length (m s) = omega (arith, (sixteen s).1, c.before.before.before.loop-test.true) in
       at-loop.loop.inv ∙ table_next _ _ (l s) (m s) i h k
-      ∙ ap (λ (b : Bool). b && same_table (drop (i + 1) (l s)) (drop (i + 1) (m s))) (sym c.same_song_lem.ensures)
+      ∙ ap (λ (b : Bool). b && same_table (drop (i + 1) (l s)) (drop (i + 1) (m s))) (sym c.same_song.ensures)
 
 returns : tie.Need-returns invariant-loop decreases-loop
-returns c = sym (turn c.before ∙ simp (not-true c.before.same_song_lem.result c.if1.true))
+returns c = sym (turn c.before ∙ simp (not-true c.before.same_song.result c.if1.true))
 
 loop-again : tie.Need-loop-preserved invariant-loop decreases-loop
-loop-again c = turn c.before ∙ simp (not-false c.before.same_song_lem.result c.if1.false)
+loop-again c = turn c.before ∙ simp (not-false c.before.same_song.result c.if1.false)
 
 returns-2 : tie.Need-returns-2 invariant-loop decreases-loop
 returns-2 c =

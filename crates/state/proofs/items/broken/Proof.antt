@@ -35,19 +35,19 @@ returns c =
     let order = off.before.before in
     let mode = order.before.before in
     let s = mode.before.before.before.before.before.before.before.before.args.state in
-    mark_is (mode_named s.mode) mode.mark.ensures mode.before.mode_named_lem.ensures
-    (mark_is (order_named s.motors) order.mark2.ensures order.before.order_named_lem.ensures
-    (mark_is (off_unless_driven s.mode s.motors) off.mark3.ensures off.before.off_unless_driven_lem.ensures
+    mark_is (mode_named s.mode) mode.mark.ensures mode.before.mode_named.ensures
+    (mark_is (order_named s.motors) order.mark2.ensures order.before.order_named.ensures
+    (mark_is (off_unless_driven s.mode s.motors) off.mark3.ensures off.before.off_unless_driven.ensures
     (mark_is (wheels_legal s.motors) wheels.mark4.ensures wheels.before.wheels-legal.ensures
-    (mark_is (duties_legal s.motors) duties.mark5.ensures duties.before.duties_legal_lem.ensures
+    (mark_is (duties_legal s.motors) duties.mark5.ensures duties.before.duties_legal.ensures
     (mark_is (outputs_legal s.kept) outputs.mark6.ensures outputs.before.outputs-legal.ensures
     (mark_is (baud_legal s.kept) baud.mark7.ensures baud.before.baud-legal.ensures
     (mark_is (selected_legal s.songs) selected.mark8.ensures selected.before.selected-legal.ensures
-    (mark_is (stream_legal s.stream) list.mark9.ensures list.before.stream_legal_lem.ensures
+    (mark_is (stream_legal s.stream) list.mark9.ensures list.before.stream_legal.ensures
     (mark_is (all length_legal s.songs.table) lengths.mark10.ensures lengths.before.lengths-legal.ensures
-    (mark_is (playing_set s.songs) playing.mark11.ensures playing.before.playing_set_lem.ensures
-    (mark_is (all notes_zero s.songs.table) notes.mark12.ensures notes.before.notes_zero_lem.ensures
-    (mark_is (ids_zero s.stream) ids.mark13.ensures ids.before.ids_zero_lem.ensures
+    (mark_is (playing_set s.songs) playing.mark11.ensures playing.before.playing_set.ensures
+    (mark_is (all notes_zero s.songs.table) notes.mark12.ensures notes.before.notes_zero.ensures
+    (mark_is (ids_zero s.stream) ids.mark13.ensures ids.before.ids_zero.ensures
     (mark_is (reachable_of s.partial) partial.mark14.ensures partial.before.partial-ok.ensures
     (mark_is (is_flag s.songs.playing) playing_flag.mark15.ensures playing_flag.before.is-flag.ensures
     (mark_is (is_flag s.stream.on) streaming_flag.mark16.ensures streaming_flag.before.is-flag2.ensures refl)))))))))))))))

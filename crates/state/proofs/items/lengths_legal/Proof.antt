@@ -24,7 +24,7 @@ abbrev decreases-loop : tie.decreases-loop
 decreases-loop table i₀ i = 16 - i
 
 sixteen : (c : tie.Start invariant-loop decreases-loop) → length c.args.t1 ≡ 16
-sixteen c = c.well-formed.0.1.0.1
+sixteen c = c.well_formed.0.1.0.1
 
 -- what a turn looks at, and what it leaves
 module _ (c : tie.In-loop invariant-loop decreases-loop) where

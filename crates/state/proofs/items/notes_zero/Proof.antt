@@ -22,7 +22,7 @@ abbrev decreases-loop : tie.decreases-loop
 decreases-loop table i₀ i = 16 - i
 
 sixteen : (c : tie.Start invariant-loop decreases-loop) → length c.args.t1 ≡ 16
-sixteen c = c.well-formed.0.1.0.1
+sixteen c = c.well_formed.0.1.0.1
 
 -- what a turn's test tells of what is left
 module _ (c : tie.After-song-clear invariant-loop decreases-loop) where

@@ -14,7 +14,7 @@ use Rattle.state.proofs.items.playing_set.Statement.{statement}
 use Rattle.state.proofs.items.playing_set.Tie as tie
 
 sixteen : (c : tie.Start) → length c.args.songs.table ≡ 16
-sixteen c = sym (length-map c.args.songs.table _) ∙ c.well-formed.0.1.1.0.1.0.1
+sixteen c = sym (length-map c.args.songs.table _) ∙ c.well_formed.0.1.1.0.1.0.1
 
 returns : tie.Need-returns
 unfolding playing_set

@@ -10,12 +10,12 @@ use Rattle.state.proofs.items.wheels_legal.Tie as tie
 returns : tie.Need-returns
 returns c =
     let asked = c.before in
-    sym (unnamed_legal asked.before.args.motors (sym asked.order_named_lem.ensures ∙ not-true _ c.if1.true))
+    sym (unnamed_legal asked.before.args.motors (sym asked.order_named.ensures ∙ not-true _ c.if1.true))
 
 returns-2 : tie.Need-returns-2
 returns-2 c =
     let asked = c.before.before in
-    c.wheels-ok.ensures ∙ simp (sym asked.order_named_lem.ensures ∙ not-false _ c.before.if1.false)
+    c.wheels-ok.ensures ∙ simp (sym asked.order_named.ensures ∙ not-false _ c.before.if1.false)
 
 pub wheels_legal_spec : {M : Type 1} → statement M
 wheels_legal_spec =

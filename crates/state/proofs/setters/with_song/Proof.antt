@@ -12,7 +12,7 @@ use Rattle.state.proofs.setters.with_song.Statement.{statement}
 use Rattle.state.proofs.setters.with_song.Tie as tie
 
 sixteen : (c : tie.Start) → length c.args.state.songs.table ≡ 16
-sixteen c = sym (length-map c.args.state.songs.table _) ∙ c.well-formed.0.1.1.1.1.1.0.1.1.0.1.0.1
+sixteen c = sym (length-map c.args.state.songs.table _) ∙ c.well_formed.0.1.1.1.1.1.0.1.1.0.1.0.1
 
 returns : tie.Need-returns
 returns c =
