@@ -12,42 +12,42 @@ use Rattle.state.proofs.accepts.Statement.{statement}
 use Rattle.state.proofs.accepts.Tie as tie
 
 -- the record that is asked about
-abbrev asked : tie.After-motors-ok → State
+abbrev asked : tie.After-motors_ok → State
 asked c = c.before.before.before.before.before.before.args.state
 
-motors : (c : tie.Then1)
+motors : (c : tie.Then-motors_ok)
     → let s = asked c.before in
     accepted_of s ≡ (kept_ok s.kept && (songs_ok s.songs && (stream_ok s.stream && reachable_of s.partial)))
-motors c = by_parts (asked c.before) ∙ simp (sym c.before.motors-ok.ensures ∙ c.if1.true)
+motors c = by_parts (asked c.before) ∙ simp (sym c.before.motors_ok.ensures ∙ c.if-motors_ok.true)
 
-kept : (c : tie.Then2)
+kept : (c : tie.Then-kept_ok)
     → let s = asked c.before.before.before in
     accepted_of s ≡ (songs_ok s.songs && (stream_ok s.stream && reachable_of s.partial))
-kept c = motors c.before.before ∙ simp (sym c.before.kept-ok.ensures ∙ c.if2.true)
+kept c = motors c.before.before ∙ simp (sym c.before.kept_ok.ensures ∙ c.if-kept_ok.true)
 
-songs : (c : tie.Then3)
+songs : (c : tie.Then-songs_ok)
     → let s = asked c.before.before.before.before.before in
     accepted_of s ≡ (stream_ok s.stream && reachable_of s.partial)
-songs c = kept c.before.before ∙ simp (sym c.before.songs-ok.ensures ∙ c.if3.true)
+songs c = kept c.before.before ∙ simp (sym c.before.songs_ok.ensures ∙ c.if-songs_ok.true)
 
-returns : tie.Need-returns
+returns : tie.Need-returns-then-stream_ok
 returns c =
     let stream = c.before.before in
-    c.partial-ok.ensures ∙ sym (songs stream.before ∙ simp (sym stream.stream-ok.ensures ∙ c.before.if4.true))
+    c.partial_ok.ensures ∙ sym (songs stream.before ∙ simp (sym stream.stream_ok.ensures ∙ c.before.if-stream_ok.true))
 
-returns-2 : tie.Need-returns-2
+returns-2 : tie.Need-returns-else-stream_ok
 returns-2 c =
     let stream = c.before in
-    c.if4.false ∙ sym (songs stream.before ∙ simp (sym stream.stream-ok.ensures ∙ c.if4.false))
+    c.if-stream_ok.false ∙ sym (songs stream.before ∙ simp (sym stream.stream_ok.ensures ∙ c.if-stream_ok.false))
 
-returns-3 : tie.Need-returns-3
-returns-3 c = c.if3.false ∙ sym (kept c.before.before ∙ simp (sym c.before.songs-ok.ensures ∙ c.if3.false))
+returns-3 : tie.Need-returns-else-songs_ok
+returns-3 c = c.if-songs_ok.false ∙ sym (kept c.before.before ∙ simp (sym c.before.songs_ok.ensures ∙ c.if-songs_ok.false))
 
-returns-4 : tie.Need-returns-4
-returns-4 c = c.if2.false ∙ sym (motors c.before.before ∙ simp (sym c.before.kept-ok.ensures ∙ c.if2.false))
+returns-4 : tie.Need-returns-else-kept_ok
+returns-4 c = c.if-kept_ok.false ∙ sym (motors c.before.before ∙ simp (sym c.before.kept_ok.ensures ∙ c.if-kept_ok.false))
 
-returns-5 : tie.Need-returns-5
-returns-5 c = c.if1.false ∙ sym (by_parts (asked c.before) ∙ simp (sym c.before.motors-ok.ensures ∙ c.if1.false))
+returns-5 : tie.Need-returns-else-motors_ok
+returns-5 c = c.if-motors_ok.false ∙ sym (by_parts (asked c.before) ∙ simp (sym c.before.motors_ok.ensures ∙ c.if-motors_ok.false))
 
 pub accepts_spec : {M : Type 1} → statement M
 accepts_spec =

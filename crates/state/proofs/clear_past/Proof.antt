@@ -20,10 +20,10 @@ use Rattle.wire.proofs.ListsLaws.{from, zeros_next}
 use Rattle.state.proofs.clear_past.Statement.{statement}
 use Rattle.state.proofs.clear_past.Tie as tie
 
-abbrev invariant-loop : tie.invariant-loop
+abbrev invariant-loop : tie.invariant-loop-i
 invariant-loop used mask notes start left₀ i₀ left i = all_zero (drop used notes) ≡ (is_zero left && all_zero (drop (used + (i - used)) notes))
 
-abbrev decreases-loop : tie.decreases-loop
+abbrev decreases-loop : tie.decreases-loop-i
 decreases-loop used mask notes start left₀ i₀ left i = 32 - i
 
 -- the mask, and what it leaves of a byte: nothing before place 32, and all of it from there on
@@ -56,32 +56,32 @@ turn l mask used left i e len b u h =
     rw (same, hidden (get_or l i 0) (32 - used + i) (omega arith), or_zero_r left) refl)
     (le_or_lt used i))
 
-loop-holds : tie.Need-loop-init invariant-loop decreases-loop
+loop-holds : tie.Need-loop-i-init invariant-loop decreases-loop
 loop-holds c =
     let e : c.args.used ≡ c.args.used + (0 - c.args.used) = omega arith in
-    ap (λ (n : ℕ). all_zero (drop n c.args.t1)) e
+    ap (λ (n : ℕ). all_zero (drop n c.args.notes)) e
 
-loop-again : tie.Need-loop-preserved invariant-loop decreases-loop
+loop-again : tie.Need-loop-i-preserved invariant-loop decreases-loop
 loop-again c =
     let at_loop = c.before.before in
     let start = at_loop.before in
-    let l = start.args.t1 in
-    let i = at_loop.loop.i in
+    let l = start.args.notes in
+    let i = at_loop.loop-i.i in
     let len : length l ≡ 32 = search rules in
     let byte : Fits w8 (get_or l i 0) = search rules in
-    at_loop.loop.invariant
-    ∙ turn l start.args.mask.now start.args.used at_loop.loop.left i start.requires.1 len (omega arith) start.requires.0 c.before.loop-test.true
+    at_loop.loop-i.invariant
+    ∙ turn l start.args.mask.now start.args.used at_loop.loop-i.left i start.requires.1 len (omega arith) start.requires.0 c.before.loop-i-test.true
 
 returns : tie.Need-returns invariant-loop decreases-loop
 returns c =
     let at_loop = c.before in
     let start = at_loop.before in
-    let l = start.args.t1 in
+    let l = start.args.notes in
     let used = start.args.used in
-    let i = at_loop.loop.i in
+    let i = at_loop.loop-i.i in
     let len : length l ≡ 32 = search rules in
     let h : length l ≤ used + (i - used) = omega (arith, len) in
-    sym (at_loop.loop.invariant ∙ rw (drop_of_length-le l h) (and-true (is_zero at_loop.loop.left)))
+    sym (at_loop.loop-i.invariant ∙ rw (drop_of_length-le l h) (and-true (is_zero at_loop.loop-i.left)))
 
 pub clear_past_spec : {M : Type 1} → statement M
 clear_past_spec =

@@ -31,11 +31,11 @@ tested : (c : tie.Start) → (leb c.args.kept.outputs 7 && leb c.args.kept.baud 
 unfolding kept_ok
 tested c = sym (simp (typed c, outputs_tested c.args.kept, baud_tested c.args.kept))
 
-returns : tie.Need-returns
-returns c = last_decides (le-leb _ _ c.before.if1.true) ∙ tested c.before.before.before
+returns : tie.Need-returns-then-kept-le-LAST_OUTPUTS
+returns c = last_decides (le-leb _ _ c.before.if-kept-le-LAST_OUTPUTS.true) ∙ tested c.before.before.before
 
-returns-2 : tie.Need-returns-2
-returns-2 c = first_decides _ (lt-leb _ _ c.if1.false) ∙ tested c.before.before
+returns-2 : tie.Need-returns-else-kept-le-LAST_OUTPUTS
+returns-2 c = first_decides _ (lt-leb _ _ c.if-kept-le-LAST_OUTPUTS.false) ∙ tested c.before.before
 
 pub kept_ok_spec : {M : Type 1} → statement M
 kept_ok_spec = tie.close (tie.spec returns returns-2)

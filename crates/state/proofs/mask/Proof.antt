@@ -17,10 +17,10 @@ use Rattle.state.proofs.mask.Tie as tie
 abbrev set_to : ℕ → List ℕ
 set_to i = replicate 32 0 ++ (replicate (i - 32) 255 ++ replicate (64 - i) 0)
 
-abbrev invariant-loop : tie.invariant-loop
+abbrev invariant-loop : tie.invariant-loop-i
 invariant-loop mask₀ i₀ mask i = (32 ≤ i) × (i ≤ 64) × (mask ≡ set_to i)
 
-abbrev decreases-loop : tie.decreases-loop
+abbrev decreases-loop : tie.decreases-loop-i
 decreases-loop mask₀ i₀ mask i = 64 - i
 
 turn : (i : ℕ) → 32 ≤ i → i < 64 → set (set_to i) i 255 ≡ set_to (i + 1)
@@ -28,18 +28,18 @@ turn i a b =
     let right : ℕ → Bool = λ k. same_list (set (set_to k) k 255) (set_to (k + 1)) in
     same_list_lem (set (set_to i) i 255) (set_to (i + 1)) (from right 32 32 tt i a (omega arith))
 
-loop-holds : tie.Need-loop-init invariant-loop decreases-loop
+loop-holds : tie.Need-loop-i-init invariant-loop decreases-loop
 loop-holds c = (omega arith, omega arith, refl)
 
-loop-again : tie.Need-loop-preserved invariant-loop decreases-loop
+loop-again : tie.Need-loop-i-preserved invariant-loop decreases-loop
 loop-again c =
-    let at_loop = c.before.loop in
+    let at_loop = c.before.loop-i in
     let i = at_loop.i in
     (omega arith, omega arith, ap (λ (l : List ℕ). set l i 255) at_loop.invariant.2 ∙ turn i (omega arith) (omega arith))
 
 returns : tie.Need-returns invariant-loop decreases-loop
 returns c =
-    let at_loop = c.before.loop in
+    let at_loop = c.before.loop-i in
     let e : at_loop.i ≡ 64 = omega arith in
     at_loop.invariant.2 ∙ ap set_to e
 

@@ -8,16 +8,16 @@ use Rattle.state.specs.State.{motors_off}
 use Rattle.state.proofs.motors_off.Statement.{statement}
 use Rattle.state.proofs.motors_off.Tie as tie
 
-duties_zero : (c : tie.After-clear-from) → c.clear-from.result ≡ all_zero c.before.before.before.before.before.args.motors.duties
-duties_zero c = c.clear-from.ensures
+duties_zero : (c : tie.After-clear_from) → c.clear_from.result ≡ all_zero c.before.before.before.before.before.args.motors.duties
+duties_zero c = c.clear_from.ensures
 
-returns : tie.Need-returns
+returns : tie.Need-returns-then-motors-eq-NO_ORDER
 unfolding motors_off
-returns c = simp (eq-eqb _ _ c.before.before.if1.true, duties_zero c)
+returns c = simp (eq-eqb _ _ c.before.before.if-motors-eq-NO_ORDER.true, duties_zero c)
 
-returns-2 : tie.Need-returns-2
+returns-2 : tie.Need-returns-else-motors-eq-NO_ORDER
 unfolding motors_off
-returns-2 c = simp (ne_eqb _ _ c.if1.false)
+returns-2 c = simp (ne_eqb _ _ c.if-motors-eq-NO_ORDER.false)
 
 pub motors_off_spec : {M : Type 1} → statement M
 motors_off_spec =

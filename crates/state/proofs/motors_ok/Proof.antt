@@ -36,31 +36,31 @@ tested c =
     motors_tested c.args.mode c.args.motors (omega arith) (typed c)
 
 -- what is left of it, once the first two tests are passed
-at_rest : (c : tie.Then2)
+at_rest : (c : tie.Then-off_unless_driven)
     → let a = c.before.before.before.args in
     motors_ok a.mode a.motors ≡ ((order_named a.motors && wheels_legal a.motors) && duties_legal a.motors)
 at_rest c =
     tested c.before.before.before
-    ∙ simp (le-leb _ _ c.before.before.if1.true, sym c.before.off_unless_driven.ensures ∙ c.if2.true)
+    ∙ simp (le-leb _ _ c.before.before.if-mode-le-FULL.true, sym c.before.off_unless_driven.ensures ∙ c.if-off_unless_driven.true)
 
-returns : tie.Need-returns
+returns : tie.Need-returns-then-wheels_ok
 returns c =
     let wheels = c.before.before in
-    c.duties_legal.ensures ∙ sym (at_rest wheels.before ∙ simp (sym wheels.wheels-ok.ensures ∙ c.before.if3.true))
+    c.duties_legal.ensures ∙ sym (at_rest wheels.before ∙ simp (sym wheels.wheels_ok.ensures ∙ c.before.if-wheels_ok.true))
 
-returns-2 : tie.Need-returns-2
+returns-2 : tie.Need-returns-else-wheels_ok
 returns-2 c =
     let wheels = c.before in
-    c.if3.false ∙ sym (at_rest wheels.before ∙ simp (sym wheels.wheels-ok.ensures ∙ c.if3.false))
+    c.if-wheels_ok.false ∙ sym (at_rest wheels.before ∙ simp (sym wheels.wheels_ok.ensures ∙ c.if-wheels_ok.false))
 
-returns-3 : tie.Need-returns-3
+returns-3 : tie.Need-returns-else-off_unless_driven
 returns-3 c =
     let off = c.before in
-    c.if2.false
-    ∙ sym (tested off.before.before ∙ simp (le-leb _ _ off.before.if1.true, sym off.off_unless_driven.ensures ∙ c.if2.false))
+    c.if-off_unless_driven.false
+    ∙ sym (tested off.before.before ∙ simp (le-leb _ _ off.before.if-mode-le-FULL.true, sym off.off_unless_driven.ensures ∙ c.if-off_unless_driven.false))
 
-returns-4 : tie.Need-returns-4
-returns-4 c = lt-leb _ _ c.if1.false ∙ sym (tested c.before ∙ simp (lt-leb _ _ c.if1.false))
+returns-4 : tie.Need-returns-else-mode-le-FULL
+returns-4 c = lt-leb _ _ c.if-mode-le-FULL.false ∙ sym (tested c.before ∙ simp (lt-leb _ _ c.if-mode-le-FULL.false))
 
 pub motors_ok_spec : {M : Type 1} → statement M
 motors_ok_spec =

@@ -11,19 +11,19 @@ use Rattle.state.proofs.AcceptedLaws.{unless_driven}
 use Rattle.state.proofs.off_unless_driven.Statement.{statement}
 use Rattle.state.proofs.off_unless_driven.Tie as tie
 
-returns : tie.Need-returns
+returns : tie.Need-returns-then-mode-gt-PASSIVE
 returns c =
     let a = c.before.args in
     let f : Fits w8 a.mode = search rules in
     let h : a.mode < 256 = omega arith in
-    lt-ltb _ _ c.if1.true ∙ sym (unless_driven a.mode a.motors h ∙ simp (lt-leb _ _ c.if1.true))
+    lt-ltb _ _ c.if-mode-gt-PASSIVE.true ∙ sym (unless_driven a.mode a.motors h ∙ simp (lt-leb _ _ c.if-mode-gt-PASSIVE.true))
 
-returns-2 : tie.Need-returns-2
+returns-2 : tie.Need-returns-else-mode-gt-PASSIVE
 returns-2 c =
     let a = c.before.before.args in
     let f : Fits w8 a.mode = search rules in
     let h : a.mode < 256 = omega arith in
-    c.motors_off.ensures ∙ sym (unless_driven a.mode a.motors h ∙ simp (le-leb _ _ c.before.if1.false))
+    c.motors_off.ensures ∙ sym (unless_driven a.mode a.motors h ∙ simp (le-leb _ _ c.before.if-mode-gt-PASSIVE.false))
 
 pub off_unless_driven_spec : {M : Type 1} → statement M
 off_unless_driven_spec =

@@ -7,7 +7,7 @@ use Rattle.state.proofs.power_on.Tie as tie
 
 returns : tie.Need-returns
 unfolding power_on
-returns c = simp c.empty.ensures
+returns c = simp c.empty-partial.ensures
 
 pub power_on_spec : {M : Type 1} → statement M
 power_on_spec =

@@ -30,15 +30,15 @@ tested : (c : tie.Start) → (leb c.args.song.len 16 && notes_zero c.args.song) 
 unfolding song_ok
 tested c = sym (simp (typed c, length_legal_lem c.args.song))
 
-unused : (c : tie.After-clear-past) → c.clear-past.result ≡ notes_zero c.before.before.before.args.song
+unused : (c : tie.After-clear_past) → c.clear_past.result ≡ notes_zero c.before.before.before.args.song
 unfolding notes_zero
-unused c = c.clear-past.ensures
+unused c = c.clear_past.ensures
 
-returns : tie.Need-returns
-returns c = unused c ∙ last_decides (le-leb _ _ c.before.if1.true) ∙ tested c.before.before.before
+returns : tie.Need-returns-then-len-le-LEGAL_COUNT
+returns c = unused c ∙ last_decides (le-leb _ _ c.before.if-len-le-LEGAL_COUNT.true) ∙ tested c.before.before.before
 
-returns-2 : tie.Need-returns-2
-returns-2 c = first_decides _ (lt-leb _ _ c.if1.false) ∙ tested c.before.before
+returns-2 : tie.Need-returns-else-len-le-LEGAL_COUNT
+returns-2 c = first_decides _ (lt-leb _ _ c.if-len-le-LEGAL_COUNT.false) ∙ tested c.before.before
 
 pub song_ok_spec : {M : Type 1} → statement M
 song_ok_spec =

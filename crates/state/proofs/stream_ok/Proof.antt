@@ -29,50 +29,50 @@ typed c =
     let each : (i : ℕ) → get_or l i 0 < 256 = λ i. (let h : Fits w8 (get_or l i 0) = search rules in omega arith) in
     array_true 16 l (sixteen c) each
 
-returns : tie.Need-returns
+returns : tie.Need-returns-then-stream-gt-YES
 unfolding stream_ok
-returns c = simp (typed c.before.before.before, lt-leb _ _ c.if1.true)
+returns c = simp (typed c.before.before.before, lt-leb _ _ c.if-stream-gt-YES.true)
 
 -- what the code tests, once the flag is one
-tested : (c : tie.Else1)
+tested : (c : tie.Else-stream-gt-YES)
     → let x = c.before.before.before.args.stream in
     (leb x.count 16 && (streamable_of (take x.count x.ids) && ids_zero x)) ≡ stream_ok x
 unfolding stream_ok
 tested c =
     let x = c.before.before.before.args.stream in
     sym (and_assoc (leb x.count 16) (streamable_of (take x.count x.ids)) (ids_zero x))
-    ∙ sym (simp (typed c.before.before.before, le-leb x.on 1 c.if1.false, list_tested x))
+    ∙ sym (simp (typed c.before.before.before, le-leb x.on 1 c.if-stream-gt-YES.false, list_tested x))
 
-part-streamable-end : tie.Need-slice-bounds-streamable-end
+part-streamable-end : tie.Need-slice_bounds-streamable-end
 part-streamable-end c =
-    let start = c.before.before.before.before.before in
-    let h : start.args.stream.count ≤ length start.args.stream.ids = omega (arith, sixteen start, c.before.if2.true) in
+    let l : length c.args.stream.ids ≡ 16 = search rules in
+    let h : c.args.stream.count ≤ length c.args.stream.ids = omega (arith, l, c.if-count-le-LEGAL_COUNT.true) in
     h
 
 -- what is lent is the ids in use
 in_use : (c : tie.After-streamable)
-    → let x = c.before.before.before.before.before.before.before.args.stream in
+    → let x = c.args.stream in
     c.streamable.result ≡ streamable_of (take x.count x.ids)
 in_use c =
-    let x = c.before.before.before.before.before.before.before.args.stream in
+    let x = c.args.stream in
     c.streamable.ensures ∙ ap (λ (n : ℕ). streamable_of (take n x.ids)) (sub-zero x.count)
 
-returns-2 : tie.Need-returns-2
+returns-2 : tie.Need-returns-then-streamable
 unfolding ids_zero
 returns-2 c =
     let ruled = c.before.before.before in
     let counted = ruled.before.before.before in
-    c.clear-from.ensures
-    ∙ third_of_three _ (le-leb _ _ counted.if2.true) (sym (in_use ruled) ∙ c.before.before.if3.true) ∙ tested counted.before
+    c.clear_from.ensures
+    ∙ third_of_three _ (le-leb _ _ c.if-count-le-LEGAL_COUNT.true) (sym (in_use ruled) ∙ c.before.before.if-streamable.true) ∙ tested counted
 
-returns-3 : tie.Need-returns-3
+returns-3 : tie.Need-returns-else-streamable
 returns-3 c =
     let ruled = c.before in
     let counted = ruled.before.before.before in
-    in_use ruled ∙ second_of_three _ (le-leb _ _ counted.if2.true) (sym (in_use ruled) ∙ c.if3.false) ∙ tested counted.before
+    in_use ruled ∙ second_of_three _ (le-leb _ _ c.if-count-le-LEGAL_COUNT.true) (sym (in_use ruled) ∙ c.if-streamable.false) ∙ tested counted
 
-returns-4 : tie.Need-returns-4
-returns-4 c = first_decides _ (lt-leb _ _ c.if2.false) ∙ tested c.before
+returns-4 : tie.Need-returns-else-count-le-LEGAL_COUNT
+returns-4 c = first_decides _ (lt-leb _ _ c.if-count-le-LEGAL_COUNT.false) ∙ tested c.before
 
 pub stream_ok_spec : {M : Type 1} → statement M
 stream_ok_spec =

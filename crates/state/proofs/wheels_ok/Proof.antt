@@ -12,9 +12,9 @@ use Rattle.state.specs.declared.Motors.{Motors}
 use Rattle.state.proofs.wheels_ok.Statement.{statement}
 use Rattle.state.proofs.wheels_ok.Tie as tie
 
-returns : tie.Need-returns
+returns : tie.Need-returns-in-0
 unfolding order_named wheels_legal
-returns c = simp c.match.keys1
+returns c = simp c.in-0.is
 
 -- the order's two numbers, as they are tested
 module _ (m : Motors) where
@@ -26,39 +26,39 @@ module _ (m : Motors) where
   unfolding order_named wheels_legal
   direct o = sym (simp (o, direct_tested))
 
-velocity : (c : tie.After-is-speed) → c.is-speed.result ≡ is_legal speed c.before.before.before.args.motors.first
-velocity c = signed speed (record { sfits = c.before.struct_told.given.1.0.1 }) c.is-speed.ensures
+velocity : (c : tie.After-is_speed) → c.is_speed.result ≡ is_legal speed c.before.before.before.args.motors.first
+velocity c = signed speed (record { sfits = c.before.struct_told-1.given.1.0.1 }) c.is_speed.ensures
 
-right : (c : tie.After-is-speed2) → c.is-speed2.result ≡ is_legal speed c.before.before.before.args.motors.first
-right c = signed speed (record { sfits = c.before.struct-told3.given.1.0.1 }) c.is-speed2.ensures
+right : (c : tie.After-is_speed-in-2) → c.is_speed-in-2.result ≡ is_legal speed c.before.before.before.args.motors.first
+right c = signed speed (record { sfits = c.before.struct_told-in-2-1.given.1.0.1 }) c.is_speed-in-2.ensures
 
-returns-2 : tie.Need-returns-2
+returns-2 : tie.Need-returns-then-is_speed
 returns-2 c =
     let first = c.before.before.before in
-    let second = signed radius (record { sfits = c.before.struct-told2.given.1.1.0.1 }) c.is-radius.ensures in
-    second_tested (velocity first) c.before.before.if1.true second (drive first.before.before.before.args.motors first.before.before.match.keys2)
+    let second = signed radius (record { sfits = c.before.struct_told-then-is_speed-1.given.1.1.0.1 }) c.is_radius.ensures in
+    second_tested (velocity first) c.before.before.if-is_speed.true second (drive first.before.before.before.args.motors first.before.before.in-1.is)
 
-returns-3 : tie.Need-returns-3
+returns-3 : tie.Need-returns-else-is_speed
 returns-3 c =
     let first = c.before in
-    first_tested _ (velocity first) c.if1.false (drive first.before.before.before.args.motors first.before.before.match.keys2)
+    first_tested _ (velocity first) c.if-is_speed.false (drive first.before.before.before.args.motors first.before.before.in-1.is)
 
-returns-4 : tie.Need-returns-4
+returns-4 : tie.Need-returns-then-is_speed-2
 returns-4 c =
     let first = c.before.before.before in
-    let second = signed speed (record { sfits = c.before.struct-told4.given.1.1.0.1 }) c.is-speed3.ensures in
-    second_tested (right first) c.before.before.if2.true second (direct first.before.before.before.args.motors first.before.before.match.keys3)
+    let second = signed speed (record { sfits = c.before.struct_told-then-is_speed-2-1.given.1.1.0.1 }) c.is_speed-then-is_speed-2.ensures in
+    second_tested (right first) c.before.before.if-is_speed-2.true second (direct first.before.before.before.args.motors first.before.before.in-2.is)
 
-returns-5 : tie.Need-returns-5
+returns-5 : tie.Need-returns-else-is_speed-2
 returns-5 c =
     let first = c.before in
-    first_tested _ (right first) c.if2.false (direct first.before.before.before.args.motors first.before.before.match.keys3)
+    first_tested _ (right first) c.if-is_speed-2.false (direct first.before.before.before.args.motors first.before.before.in-2.is)
 
-returns-6 : tie.Need-returns-6
+returns-6 : tie.Need-returns-in_default
 unfolding order_named wheels_legal
 returns-6 c =
     let order = c.before.args.motors.order in
-    let none = c.match.rest in
+    let none = c.in_default.in_default-own.rest in
     simp (ne_eqb order 0 none.0.0.1, ne_eqb order 1 none.0.1, ne_eqb order 2 none.1)
 
 pub wheels_ok_spec : {M : Type 1} → statement M

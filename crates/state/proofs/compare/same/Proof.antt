@@ -23,64 +23,64 @@ by_parts : (a b : State) {m k s t p : Bool} → m ≡ same_motors a.motors b.mot
 by_parts a b e f g h i = rw (e, f, g, h, i) refl
 
 -- what came of each part
-module _ (c : tie.After-struct-known2) where
+module _ (c : tie.After-struct_known-2-1) where
   abbrev motors : Bool
-  motors = c.before.before.before.before.before.before.same_motors.result
+  motors = c.same_motors-motors.result
 
   abbrev kept : Bool
-  kept = c.before.before.before.before.before.same_kept.result
+  kept = c.same_kept-kept.result
 
   abbrev songs : Bool
-  songs = c.before.before.before.before.same_songs.result
+  songs = c.same_songs-songs.result
 
   abbrev stream : Bool
-  stream = c.before.before.before.same_stream.result
+  stream = c.same_stream-stream.result
 
   abbrev partial : Bool
-  partial = c.before.before.same_partial.result
+  partial = c.same_partial-partial.result
 
   abbrev whole : Bool
-  whole = let x = c.before.before.before.before.before.before.before.args in same_state x.a x.b
+  whole = let x = c.args in same_state x.a x.b
 
-  parts : let x = c.before.before.before.before.before.before.before.args in
+  parts : let x = c.args in
       whole ≡ (eqb x.a.mode x.b.mode && (motors && (kept && (songs && (stream && partial)))))
   parts =
-      let x = c.before.before.before.before.before.before.before.args in
-      by_parts x.a x.b c.before.before.before.before.before.before.same_motors.ensures c.before.before.before.before.before.same_kept.ensures
-      c.before.before.before.before.same_songs.ensures c.before.before.before.same_stream.ensures c.before.before.same_partial.ensures
+      let x = c.args in
+      by_parts x.a x.b c.same_motors-motors.ensures c.same_kept-kept.ensures
+      c.same_songs-songs.ensures c.same_stream-stream.ensures c.same_partial-partial.ensures
 
 -- with each part that is the same, what is left of the test grows shorter
-after_mode : (c : tie.Then1) → let k = c.before in whole k ≡ (motors k && (kept k && (songs k && (stream k && partial k))))
-after_mode c = pass (parts c.before) (eq-eqb _ _ c.if1.true)
+after_mode : (c : tie.Then-a-b) → let k = c.before in whole k ≡ (motors k && (kept k && (songs k && (stream k && partial k))))
+after_mode c = pass (parts c.before) (eq-eqb _ _ c.if-a-b.true)
 
-after_motors : (c : tie.Then2) → let k = c.before.before in whole k ≡ (kept k && (songs k && (stream k && partial k)))
-after_motors c = pass (after_mode c.before) c.if2.true
+after_motors : (c : tie.Then-motors) → let k = c.before.before in whole k ≡ (kept k && (songs k && (stream k && partial k)))
+after_motors c = pass (after_mode c.before) c.if-motors.true
 
-after_kept : (c : tie.Then3) → let k = c.before.before.before in whole k ≡ (songs k && (stream k && partial k))
-after_kept c = pass (after_motors c.before) c.if3.true
+after_kept : (c : tie.Then-kept) → let k = c.before.before.before in whole k ≡ (songs k && (stream k && partial k))
+after_kept c = pass (after_motors c.before) c.if-kept.true
 
-after_songs : (c : tie.Then4) → let k = c.before.before.before.before in whole k ≡ (stream k && partial k)
-after_songs c = pass (after_kept c.before) c.if4.true
+after_songs : (c : tie.Then-songs) → let k = c.before.before.before.before in whole k ≡ (stream k && partial k)
+after_songs c = pass (after_kept c.before) c.if-songs.true
 
-returns : tie.Need-returns
-returns c = sym (pass (after_songs c.before) c.if5.true)
+returns : tie.Need-returns-then-stream
+returns c = sym (pass (after_songs c.before) c.if-stream.true)
 
-returns-2 : tie.Need-returns-2
-returns-2 c = let k = c.before.before.before.before.before in sym (stop (partial k) (after_songs c.before) c.if5.false)
+returns-2 : tie.Need-returns-else-stream
+returns-2 c = let k = c.before.before.before.before.before in sym (stop (partial k) (after_songs c.before) c.if-stream.false)
 
-returns-3 : tie.Need-returns-3
-returns-3 c = let k = c.before.before.before.before in sym (stop (stream k && partial k) (after_kept c.before) c.if4.false)
+returns-3 : tie.Need-returns-else-songs
+returns-3 c = let k = c.before.before.before.before in sym (stop (stream k && partial k) (after_kept c.before) c.if-songs.false)
 
-returns-4 : tie.Need-returns-4
-returns-4 c = let k = c.before.before.before in sym (stop (songs k && (stream k && partial k)) (after_motors c.before) c.if3.false)
+returns-4 : tie.Need-returns-else-kept
+returns-4 c = let k = c.before.before.before in sym (stop (songs k && (stream k && partial k)) (after_motors c.before) c.if-kept.false)
 
-returns-5 : tie.Need-returns-5
-returns-5 c = let k = c.before.before in sym (stop (kept k && (songs k && (stream k && partial k))) (after_mode c.before) c.if2.false)
+returns-5 : tie.Need-returns-else-motors
+returns-5 c = let k = c.before.before in sym (stop (kept k && (songs k && (stream k && partial k))) (after_mode c.before) c.if-motors.false)
 
-returns-6 : tie.Need-returns-6
+returns-6 : tie.Need-returns-else-a-b
 returns-6 c =
     let k = c.before in
-    sym (stop (motors k && (kept k && (songs k && (stream k && partial k)))) (parts k) (ne_eqb _ _ c.if1.false))
+    sym (stop (motors k && (kept k && (songs k && (stream k && partial k)))) (parts k) (ne_eqb _ _ c.if-a-b.false))
 
 pub same_spec : {M : Type 1} → statement M
 same_spec =

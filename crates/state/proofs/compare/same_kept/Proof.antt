@@ -11,21 +11,21 @@ use Rattle.state.proofs.compare.same_kept.Tie as tie
 same_leds : (c : tie.After-same) → c.same.result ≡ same_list c.before.before.before.before.before.before.before.before.args.a.leds c.before.before.before.before.before.before.before.before.args.b.leds
 same_leds c = c.same.ensures
 
-returns : tie.Need-returns
+returns : tie.Need-returns-then-a-b-2
 returns c =
     let leds = c.before.before.before.before.before.before in
-    simp (eq-eqb _ _ leds.before.before.before.if1.true, sym (same_leds leds) ∙ c.before.before.before.before.before.if2.true, eq-eqb _ _ c.before.before.if3.true)
+    simp (eq-eqb _ _ leds.before.before.before.if-a-b.true, sym (same_leds leds) ∙ c.before.before.before.before.before.if-same.true, eq-eqb _ _ c.before.before.if-a-b-2.true)
 
-returns-2 : tie.Need-returns-2
+returns-2 : tie.Need-returns-else-a-b-2
 returns-2 c =
     let leds = c.before.before.before.before in
-    simp (eq-eqb _ _ leds.before.before.before.if1.true, sym (same_leds leds) ∙ c.before.before.before.if2.true, ne_eqb _ _ c.if3.false)
+    simp (eq-eqb _ _ leds.before.before.before.if-a-b.true, sym (same_leds leds) ∙ c.before.before.before.if-same.true, ne_eqb _ _ c.if-a-b-2.false)
 
-returns-3 : tie.Need-returns-3
-returns-3 c = simp (eq-eqb _ _ c.before.before.before.before.if1.true, sym (same_leds c.before) ∙ c.if2.false, c.if2.false)
+returns-3 : tie.Need-returns-else-same
+returns-3 c = simp (eq-eqb _ _ c.before.before.before.before.if-a-b.true, sym (same_leds c.before) ∙ c.if-same.false, c.if-same.false)
 
-returns-4 : tie.Need-returns-4
-returns-4 c = simp (ne_eqb _ _ c.if1.false)
+returns-4 : tie.Need-returns-else-a-b
+returns-4 c = simp (ne_eqb _ _ c.if-a-b.false)
 
 pub same_kept_spec : {M : Type 1} → statement M
 same_kept_spec =

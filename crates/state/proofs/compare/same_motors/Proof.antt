@@ -27,30 +27,30 @@ seconds c =
     by_bits c.args.a.second c.args.b.second f g
 
 -- what is left after the kind, and after the first numbers
-after_order : (c : tie.Then1)
+after_order : (c : tie.Then-a-b)
     → let x = c.before.before.before.before.before.args in
     same_motors x.a x.b
     ≡ (same_number x.a.first x.b.first && (same_number x.a.second x.b.second && same_list x.a.duties x.b.duties))
-after_order c = simp (eq-eqb _ _ c.if1.true)
+after_order c = simp (eq-eqb _ _ c.if-a-b.true)
 
-after_first : (c : tie.Then2)
+after_first : (c : tie.Then-a-b-2)
     → let x = c.before.before.before.before.before.before.before.before.before.before.args in
     same_motors x.a x.b ≡ (same_number x.a.second x.b.second && same_list x.a.duties x.b.duties)
-after_first c = after_order c.before.before.before.before.before ∙ simp (firsts c.before.before.before.before.before.before.before.before.before.before ∙ eq-eqb _ _ c.if2.true)
+after_first c = after_order c.before.before.before.before.before ∙ simp (firsts c.before.before.before.before.before.before.before.before.before.before ∙ eq-eqb _ _ c.if-a-b-2.true)
 
-returns : tie.Need-returns
+returns : tie.Need-returns-then-a-b-3
 returns c =
     let second = c.before.before.before in
-    c.same.ensures ∙ sym (after_first second.before.before.before.before.before ∙ simp (seconds second.before.before.before.before.before.before.before.before.before.before.before.before.before.before.before ∙ eq-eqb _ _ second.if3.true))
+    c.same.ensures ∙ sym (after_first second.before.before.before.before.before ∙ simp (seconds second.before.before.before.before.before.before.before.before.before.before.before.before.before.before.before ∙ eq-eqb _ _ second.if-a-b-3.true))
 
-returns-2 : tie.Need-returns-2
-returns-2 c = sym (after_first c.before.before.before.before.before ∙ simp (seconds c.before.before.before.before.before.before.before.before.before.before.before.before.before.before.before, ne_eqb _ _ c.if3.false))
+returns-2 : tie.Need-returns-else-a-b-3
+returns-2 c = sym (after_first c.before.before.before.before.before ∙ simp (seconds c.before.before.before.before.before.before.before.before.before.before.before.before.before.before.before, ne_eqb _ _ c.if-a-b-3.false))
 
-returns-3 : tie.Need-returns-3
-returns-3 c = sym (after_order c.before.before.before.before.before ∙ simp (firsts c.before.before.before.before.before.before.before.before.before.before, ne_eqb _ _ c.if2.false))
+returns-3 : tie.Need-returns-else-a-b-2
+returns-3 c = sym (after_order c.before.before.before.before.before ∙ simp (firsts c.before.before.before.before.before.before.before.before.before.before, ne_eqb _ _ c.if-a-b-2.false))
 
-returns-4 : tie.Need-returns-4
-returns-4 c = simp (ne_eqb _ _ c.if1.false)
+returns-4 : tie.Need-returns-else-a-b
+returns-4 c = simp (ne_eqb _ _ c.if-a-b.false)
 
 pub same_motors_spec : {M : Type 1} → statement M
 same_motors_spec =

@@ -13,17 +13,17 @@ same_bytes : (c : tie.After-same) → c.same.result ≡ same_list c.before.befor
 same_bytes c = c.same.ensures
 
 -- what is left after the bytes and their count
-left : (c : tie.Then2) → let x = c.before.before.before.before.before.before.before.before.before.args in same_partial x.a x.b ≡ eqb x.a.remaining x.b.remaining
-left c = simp (sym (same_bytes c.before.before.before.before) ∙ c.before.before.before.if1.true, eq-eqb _ _ c.if2.true)
+left : (c : tie.Then-a-b) → let x = c.before.before.before.before.before.before.before.before.before.args in same_partial x.a x.b ≡ eqb x.a.remaining x.b.remaining
+left c = simp (sym (same_bytes c.before.before.before.before) ∙ c.before.before.before.if-same.true, eq-eqb _ _ c.if-a-b.true)
 
-returns : tie.Need-returns
+returns : tie.Need-returns-then-a-b
 returns c = sym (left c.before.before)
 
-returns-2 : tie.Need-returns-2
-returns-2 c = simp (sym (same_bytes c.before.before.before.before) ∙ c.before.before.before.if1.true, ne_eqb _ _ c.if2.false)
+returns-2 : tie.Need-returns-else-a-b
+returns-2 c = simp (sym (same_bytes c.before.before.before.before) ∙ c.before.before.before.if-same.true, ne_eqb _ _ c.if-a-b.false)
 
-returns-3 : tie.Need-returns-3
-returns-3 c = simp (sym (same_bytes c.before) ∙ c.if1.false, c.if1.false)
+returns-3 : tie.Need-returns-else-same
+returns-3 c = simp (sym (same_bytes c.before) ∙ c.if-same.false, c.if-same.false)
 
 pub same_partial_spec : {M : Type 1} → statement M
 same_partial_spec =

@@ -6,14 +6,14 @@ use borrow.Author.Tests.{eq-eqb, ne_eqb}
 use Rattle.state.proofs.compare.same_songs.Statement.{statement}
 use Rattle.state.proofs.compare.same_songs.Tie as tie
 
-returns : tie.Need-returns
-returns c = simp (sym c.before.before.before.before.before.before.same_table.ensures ∙ c.before.before.before.before.before.if1.true, eq-eqb _ _ c.before.before.if2.true)
+returns : tie.Need-returns-then-a-b
+returns c = simp (sym c.before.before.before.before.before.before.same_table.ensures ∙ c.before.before.before.before.before.if-same_table.true, eq-eqb _ _ c.before.before.if-a-b.true)
 
-returns-2 : tie.Need-returns-2
-returns-2 c = simp (sym c.before.before.before.before.same_table.ensures ∙ c.before.before.before.if1.true, ne_eqb _ _ c.if2.false)
+returns-2 : tie.Need-returns-else-a-b
+returns-2 c = simp (sym c.before.before.before.before.same_table.ensures ∙ c.before.before.before.if-same_table.true, ne_eqb _ _ c.if-a-b.false)
 
-returns-3 : tie.Need-returns-3
-returns-3 c = simp (sym c.before.same_table.ensures ∙ c.if1.false, c.if1.false)
+returns-3 : tie.Need-returns-else-same_table
+returns-3 c = simp (sym c.before.same_table.ensures ∙ c.if-same_table.false, c.if-same_table.false)
 
 pub same_songs_spec : {M : Type 1} → statement M
 same_songs_spec =

@@ -36,21 +36,21 @@ returns c =
     let mode = order.before.before in
     let s = mode.before.before.before.before.before.before.before.before.args.state in
     mark_is (mode_named s.mode) mode.mark.ensures mode.before.mode_named.ensures
-    (mark_is (order_named s.motors) order.mark2.ensures order.before.order_named.ensures
-    (mark_is (off_unless_driven s.mode s.motors) off.mark3.ensures off.before.off_unless_driven.ensures
-    (mark_is (wheels_legal s.motors) wheels.mark4.ensures wheels.before.wheels-legal.ensures
-    (mark_is (duties_legal s.motors) duties.mark5.ensures duties.before.duties_legal.ensures
-    (mark_is (outputs_legal s.kept) outputs.mark6.ensures outputs.before.outputs-legal.ensures
-    (mark_is (baud_legal s.kept) baud.mark7.ensures baud.before.baud-legal.ensures
-    (mark_is (selected_legal s.songs) selected.mark8.ensures selected.before.selected-legal.ensures
-    (mark_is (stream_legal s.stream) list.mark9.ensures list.before.stream_legal.ensures
-    (mark_is (all length_legal s.songs.table) lengths.mark10.ensures lengths.before.lengths-legal.ensures
-    (mark_is (playing_set s.songs) playing.mark11.ensures playing.before.playing_set.ensures
-    (mark_is (all notes_zero s.songs.table) notes.mark12.ensures notes.before.notes_zero.ensures
-    (mark_is (ids_zero s.stream) ids.mark13.ensures ids.before.ids_zero.ensures
-    (mark_is (reachable_of s.partial) partial.mark14.ensures partial.before.partial-ok.ensures
-    (mark_is (is_flag s.songs.playing) playing_flag.mark15.ensures playing_flag.before.is-flag.ensures
-    (mark_is (is_flag s.stream.on) streaming_flag.mark16.ensures streaming_flag.before.is-flag2.ensures refl)))))))))))))))
+    (mark_is (order_named s.motors) order.mark-2.ensures order.before.order_named.ensures
+    (mark_is (off_unless_driven s.mode s.motors) off.mark-3.ensures off.before.off_unless_driven.ensures
+    (mark_is (wheels_legal s.motors) wheels.mark-4.ensures wheels.before.wheels_legal.ensures
+    (mark_is (duties_legal s.motors) duties.mark-5.ensures duties.before.duties_legal.ensures
+    (mark_is (outputs_legal s.kept) outputs.mark-6.ensures outputs.before.outputs_legal.ensures
+    (mark_is (baud_legal s.kept) baud.mark-7.ensures baud.before.baud_legal.ensures
+    (mark_is (selected_legal s.songs) selected.mark-8.ensures selected.before.selected_legal.ensures
+    (mark_is (stream_legal s.stream) list.mark-9.ensures list.before.stream_legal.ensures
+    (mark_is (all length_legal s.songs.table) lengths.mark-10.ensures lengths.before.lengths_legal.ensures
+    (mark_is (playing_set s.songs) playing.mark-11.ensures playing.before.playing_set.ensures
+    (mark_is (all notes_zero s.songs.table) notes.mark-12.ensures notes.before.notes_zero.ensures
+    (mark_is (ids_zero s.stream) ids.mark-13.ensures ids.before.ids_zero.ensures
+    (mark_is (reachable_of s.partial) partial.mark-14.ensures partial.before.partial_ok.ensures
+    (mark_is (is_flag s.songs.playing) playing_flag.mark-15.ensures playing_flag.before.is_flag.ensures
+    (mark_is (is_flag s.stream.on) streaming_flag.mark-16.ensures streaming_flag.before.is_flag-2.ensures refl)))))))))))))))
 
 pub broken_spec : {M : Type 1} → statement M
 broken_spec =

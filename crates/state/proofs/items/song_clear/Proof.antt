@@ -6,9 +6,9 @@ use Rattle.state.specs.Accepted.{notes_zero}
 use Rattle.state.proofs.items.song_clear.Statement.{statement}
 use Rattle.state.proofs.items.song_clear.Tie as tie
 
-unused : (c : tie.After-clear-from) → c.clear-from.result ≡ notes_zero c.before.before.before.before.args.song
+unused : (c : tie.After-clear_from) → c.clear_from.result ≡ notes_zero c.before.before.before.before.args.song
 unfolding notes_zero
-unused c = c.clear-from.ensures
+unused c = c.clear_from.ensures
 
 pub song_clear_spec : {M : Type 1} → statement M
 song_clear_spec =

@@ -16,22 +16,21 @@ use Rattle.state.proofs.items.stream_legal.Tie as tie
 sixteen : (c : tie.Start) → length c.args.stream.ids ≡ 16
 sixteen c = search rules
 
-part-streamable-end : tie.Need-slice-bounds-streamable-end
+part-streamable-end : tie.Need-slice_bounds-streamable-end
 part-streamable-end c =
-    let start = c.before.before.before in
-    let h : start.args.stream.count ≤ length start.args.stream.ids = omega (arith, sixteen start, c.before.if1.true) in
+    let l : length c.args.stream.ids ≡ 16 = search rules in
+    let h : c.args.stream.count ≤ length c.args.stream.ids = omega (arith, l, c.if-count-le-LEGAL_COUNT.true) in
     h
 
-returns : tie.Need-returns
+returns : tie.Need-returns-then-count-le-LEGAL_COUNT
 returns c =
-    let counted = c.before.before.before in
-    let x = counted.before.before.args.stream in
+    let x = c.args.stream in
     c.streamable.ensures
     ∙ ap (λ (n : ℕ). streamable_of (take n x.ids)) (sub-zero x.count)
-    ∙ last_decides (le-leb _ _ counted.if1.true) ∙ sym (list_tested x)
+    ∙ last_decides (le-leb _ _ c.if-count-le-LEGAL_COUNT.true) ∙ sym (list_tested x)
 
-returns-2 : tie.Need-returns-2
-returns-2 c = first_decides _ (lt-leb _ _ c.if1.false) ∙ sym (list_tested c.before.before.args.stream)
+returns-2 : tie.Need-returns-else-count-le-LEGAL_COUNT
+returns-2 c = first_decides _ (lt-leb _ _ c.if-count-le-LEGAL_COUNT.false) ∙ sym (list_tested c.args.stream)
 
 pub stream_legal_spec : {M : Type 1} → statement M
 stream_legal_spec =

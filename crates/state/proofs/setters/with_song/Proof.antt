@@ -12,9 +12,9 @@ use Rattle.state.proofs.setters.with_song.Statement.{statement}
 use Rattle.state.proofs.setters.with_song.Tie as tie
 
 sixteen : (c : tie.Start) → length c.args.state.songs.table ≡ 16
-sixteen c = sym (length-map c.args.state.songs.table _) ∙ c.well_formed.0.1.1.1.1.1.0.1.1.0.1.0.1
+sixteen c = c.well_formed.0.1.1.1.1.1.0.1.1.0.1.0.1
 
-returns : tie.Need-returns
+returns : tie.Need-returns-then-song-gt-LAST_SONG
 returns c =
     let s = c.before.args.state in
     let out = set_out s.songs.table c.before.args.song _ (omega (arith, sixteen c.before)) in

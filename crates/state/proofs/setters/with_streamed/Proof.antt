@@ -23,10 +23,10 @@ whole p d e f =
 
 returns : tie.Need-returns
 returns c =
-    let a = c.before.before.before.before.before.args in
-    let len : length a.t3 ≡ 32 = search rules in
-    c.with-stream.ensures
-    ∙ ap (λ (l : List ℕ). with_streaming 1 (with_list a.count l a.state)) (put_start c.before.before.put-part.ensures ∙ whole a.t3 (replicate 16 0) len refl)
+    let a = c.args in
+    let len : length a.payload ≡ 32 = search rules in
+    c.with_stream.ensures
+    ∙ ap (λ (l : List ℕ). with_streaming 1 (with_list a.count l a.state)) (put_start c.before.before.put_part.ensures ∙ whole a.payload (replicate 16 0) len refl)
 
 pub with_streamed_spec : {M : Type 1} → statement M
 with_streamed_spec = tie.close (tie.spec (λ c. search rules) (λ c. search rules) (λ c κs. search rules) (λ c κs. search rules) returns)

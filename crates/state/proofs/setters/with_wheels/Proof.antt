@@ -11,7 +11,7 @@ returns c =
     let begun = c.before.before.before in
     let a = to_z-of_z w16 begun.args.first begun.ranges.first in
     let b = to_z-of_z w16 begun.args.second begun.ranges.second in
-    rw (a, b) at c.with-motors.ensures
+    rw (a, b) at c.with_motors.ensures
 
 pub with_wheels_spec : {M : Type 1} → statement M
 with_wheels_spec = tie.close (tie.spec (λ c κs. search rules) returns)
