@@ -357,12 +357,12 @@ quiet_song x k s u same i = i
 quiet_song x k s u (stopped e) i = let f = i.in_full in absurd (omega arith)
 quiet_song x k s u (silent t) i = record { in_full = i.in_full; song = λ h a. i.song h t }
 
-song_full : (x k : ℕ) (t s : State) (rs : List Reading) → Course t s rs → InSong x k s → length rs ≤ k → t.mode ≡ 3
-song_full x k t s rs over i l = i.in_full
-song_full x k t s rs (quiet {u = u} q c) i l = song_full x k t u rs c (quiet_song x k s u q i) l
-song_full x zero t s rs (reads {rs = ms} b image room a c) i l = absurd (omega arith)
-song_full x (suc k) t s rs (reads {rs = ms} b image room a c) i l =
-    song_full x k t (byte_of s b image room).state ms c (song_byte x k b s image room a i) (omega arith)
+song_full : (t : State) (x k : ℕ) (s : State) (rs : List Reading) → Course t s rs → InSong x k s → length rs ≤ k → t.mode ≡ 3
+song_full t x k s rs over i l = i.in_full
+song_full t x k s rs (quiet {u = u} q c) i l = song_full t x k u rs c (quiet_song x k s u q i) l
+song_full t x zero s rs (reads {rs = ms} b image room a c) i l = absurd (omega arith)
+song_full t x (suc k) s rs (reads {rs = ms} b image room a c) i l =
+    song_full t x k (byte_of s b image room).state ms c (song_byte x k b s image room a i) (omega arith)
 
 -- so from every record in Full with 510 bytes remaining: no other frame has as many
 more_than_510 : (s : State) → s.mode ≡ 3 → s.partial.remaining ≡ 510 → (cs : List Call) → T (idle (after s cs)) → 510 < length (bytes_read s cs)
@@ -370,7 +370,7 @@ more_than_510 s m e cs t =
     ⊎_elim (λ (l : length (bytes_read s cs) ≤ 510).
     let x = get_or s.partial.bytes 1 0 in
     let i : InSong x 510 s = record { in_full = m; song = λ h a. remaining_needed.only_song s.partial (accepted_reachable s a) e } in
-    let f = song_full x 510 (after s cs) s (readings s cs) (course cs s) i (omega (arith, read_count cs s)) in
+    let f = song_full (after s cs) x 510 s (readings s cs) (course cs s) i (omega (arith, read_count cs s)) in
     let p = (idle_facts (after s cs) t).in_passive in
     absurd (omega arith))
     (λ l. l)

@@ -19,46 +19,46 @@ use Rattle.board.proofs.BackingLaws.{compared, op_fits, op_is, op_small}
 use Rattle.board.proofs.backs_round.Statement.{statement}
 use Rattle.board.proofs.backs_round.Tie as tie
 
-returns : tie.Need-returns
+returns : tie.Need-returns-then-right-gt0
 unfolding backs_round
 returns c =
     let a = c.before.args in
     let f = c.before.ranges in
     ⊎_elim
-    (λ t. sym (simp (rw (to_z-of_z f.right) at t.taken)))
-    (λ t. sym (simp (rw (to_z-of_z f.left) at t.1.taken, or-true (lt_z (pos 0) a.right))))
-    c.if1.branch
+    (λ t. sym (simp (rw (to_z-of_z f.right) at t.if-right-gt0.true)))
+    (λ t. sym (simp (rw (to_z-of_z f.left) at t.if-left-gt0.true, or-true (lt_z (pos 0) a.right))))
+    c.then-right-gt0.branch-raw
 
-add-magnitude : tie.Need-overflow-add-magnitude
+add-magnitude : tie.Need-overflow_add-r
 add-magnitude c = let f = c.before.before.ranges in op_fits ◌+ℤ◌ abs_sum f.right f.left
 
-sub-magnitude : tie.Need-overflow-sub-magnitude
+sub-magnitude : tie.Need-overflow_sub-r
 sub-magnitude c = let f = c.before.before.before.ranges in op_fits ◌-ℤ◌ abs_difference f.right f.left
 
-module _ (c : tie.After-magnitude2) where
-  sum_small : c.before.magnitude.result ≤ 65536
-  sum_small = let f = c.before.before.before.before.ranges in op_small ◌+ℤ◌ abs_sum f.right f.left c.before.magnitude.ensures
+module _ (c : tie.After-magnitude-difference) where
+  sum_small : c.before.magnitude-sum.result ≤ 65536
+  sum_small = let f = c.before.before.before.before.ranges in op_small ◌+ℤ◌ abs_sum f.right f.left c.before.magnitude-sum.ensures
 
-  difference_small : c.magnitude2.result ≤ 65536
-  difference_small = let f = c.before.before.before.before.ranges in op_small ◌-ℤ◌ abs_difference f.right f.left c.magnitude2.ensures
+  difference_small : c.magnitude-difference.result ≤ 65536
+  difference_small = let f = c.before.before.before.before.ranges in op_small ◌-ℤ◌ abs_difference f.right f.left c.magnitude-difference.ensures
 
 -- neither product leaves the 32 bits, whichever it is of
-mul-result : tie.Need-overflow-mul-result
+mul-result : tie.Need-overflow_mul-result
 mul-result c = omega (arith, sum_small c, difference_small c)
 
-mul-result-2 : tie.Need-overflow-mul-result-2
+mul-result-2 : tie.Need-overflow_mul-result-2
 mul-result-2 c = omega (arith, sum_small c, difference_small c)
 
-returns-2 : tie.Need-returns-2
+returns-2 : tie.Need-returns
 unfolding backs_round
 returns-2 c =
     let neither = c.before.before in
     let a = neither.before.before.args in
     let f = neither.before.before.ranges in
-    let sum = op_is ◌+ℤ◌ abs_sum f.right f.left c.before.magnitude.ensures in
-    let difference = op_is ◌-ℤ◌ abs_difference f.right f.left c.magnitude2.ensures in
+    let sum = op_is ◌+ℤ◌ abs_sum f.right f.left c.before.magnitude-sum.ensures in
+    let difference = op_is ◌-ℤ◌ abs_difference f.right f.left c.magnitude-difference.ensures in
     (λ i. ltb (129 * sum i) (165 * difference i))
-    ∙ sym (simp (rw (to_z-of_z f.right) at neither.before.if1.false, rw (to_z-of_z f.left) at neither.if2.false, compared a.right a.left))
+    ∙ sym (simp (rw (to_z-of_z f.right) at neither.before.if-right-gt0.false, rw (to_z-of_z f.left) at neither.if-left-gt0.false, compared a.right a.left))
 
 pub backs_round_spec : {M : Type 1} → statement M
 backs_round_spec =

@@ -9,7 +9,7 @@ returns : tie.Need-returns
 returns c =
     let run = c.before.before.before in
     let a = run.before.before.before.before.args in
-    byte_met a.state a.b a.image.now a.buffer.now run.run.ensures
+    byte_met a.state a.b a.image.now a.buffer.now run.run-ran.ensures
 
 pub byte_spec : {M : Type 1} → statement M
 byte_spec = tie.close (tie.spec (λ c. search rules) (λ c κs. search rules) (λ c. search rules) returns)

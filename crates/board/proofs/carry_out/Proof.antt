@@ -40,38 +40,37 @@ module _ (c : tie.Start) where
 
 -- ---- 141
 
-is-set-requires : tie.Need-is-set-requires
+is-set-requires : tie.Need-is_set-requires
 is-set-requires c κs =
-    let given = c.before.before.command.given in
-    let begun = c.before.before.before.before.before.before in
-    play_song given.0.0 begun.args.message.payload (legal begun given.1)
+    let begun = c.before.before.before.before in
+    play_song c.before.in-Play.song begun.args.message.payload (legal begun c.before.in-Play.is)
 
 -- the song that is asked for
-module _ (c : tie.After-is-set) where
+module _ (c : tie.After-is_set) where
   abbrev begun : tie.Start
-  begun = c.before.before.before.before.before.before.before
+  begun = c.before.before.before.before.before
 
   abbrev song : ℕ
-  song = c.before.before.before.command.given.0.0
+  song = c.before.before.in-Play.song
 
   abbrev plays : begun.args.message.command ≡ cmd.Play song
-  plays = c.before.before.before.command.given.1
+  plays = c.before.before.in-Play.is
 
   -- what is left of the rules is what the song's case gives
   left_play : {x : Outcome} → left begun (cmd.Play song) ≡ x → left begun begun.args.message.command ≡ x
   left_play e = left_as begun plays ∙ e
 
-returns : tie.Need-returns
+returns : tie.Need-returns-then-not-is_set
 returns c =
     let set = c.before.before in
     let a = (begun set).args in
     sent_gives a.state a.buffer.now
     (left_play set
     (carried_unset a.state a.message.payload a.image.now (length a.buffer.now) (song set)
-    (sym set.is_set.ensures ∙ not-true _ c.before.if1.true)))
+    (sym set.is_set.ensures ∙ not-true _ c.before.if-not-is_set.true-raw)))
     c.refuse.ensures
 
-returns-2 : tie.Need-returns-2
+returns-2 : tie.Need-returns-then-songs-eq-YES
 returns-2 c =
     let test = c.before.before.before in
     let set = test.before in
@@ -79,10 +78,10 @@ returns-2 c =
     sent_gives a.state a.buffer.now
     (left_play set
     (carried_busy a.state a.message.payload a.image.now (length a.buffer.now) (song set)
-    (sym set.is_set.ensures ∙ not-false _ test.if1.false) (eq-eqb _ _ c.before.if2.true)))
-    c.refuse2.ensures
+    (sym set.is_set.ensures ∙ not-false _ test.if-not-is_set.false-raw) (eq-eqb _ _ c.before.if-songs-eq-YES.true)))
+    c.refuse-then-songs-eq-YES.ensures
 
-returns-3 : tie.Need-returns-3
+returns-3 : tie.Need-returns-else-songs-eq-YES
 returns-3 c =
     let busy = c.before in
     let test = busy.before.before in
@@ -91,48 +90,44 @@ returns-3 c =
     sent_gives _ a.buffer.now
     (left_play set
     (carried_play a.state a.message.payload a.image.now (length a.buffer.now) (song set)
-    (sym set.is_set.ensures ∙ not-false _ test.if1.false) (ne_eqb _ _ busy.if2.false)))
+    (sym set.is_set.ensures ∙ not-false _ test.if-not-is_set.false-raw) (ne_eqb _ _ busy.if-songs-eq-YES.false)))
     c.done.ensures
 
 -- ---- 142
 
-returns-4 : tie.Need-returns-4
+returns-4 : tie.Need-returns-in-Sensors
 returns-4 c =
     let answer = c.before.before in
     let status = answer.before.before in
     let known = status.before.before in
-    let given = known.before.command2.given in
-    let begun = known.before.before.before.before.before in
+    let begun = known.before.before.before in
     let a = begun.args in
-    let id = given.0.0 in
-    sent_as_lem a.buffer.now (left_as begun given.1 ∙ carried_sensors a.state a.message.payload a.image.now (length a.buffer.now) id)
+    let id = known.in-Sensors.id in
+    sent_as_lem a.buffer.now (left_as begun known.in-Sensors.is ∙ carried_sensors a.state a.message.payload a.image.now (length a.buffer.now) id)
     (sent_fitted (answer_bytes (status_of a.state) a.image.now (id ∷ [])) a.buffer.now a.state
-    (sensors_listable id a.message.payload (legal begun given.1)) (rw status.status-of.ensures at answer.answer.ensures))
+    (sensors_listable id a.message.payload (legal begun known.in-Sensors.is)) (rw status.status_of.ensures at answer.answer.ensures))
 
 -- ---- 149
 
-part-answer-end : tie.Need-slice-bounds-answer-end
+part-answer-end : tie.Need-slice_bounds-answer-end-in-QueryList
 part-answer-end c =
-    let given = c.before.before.command3.given in
-    let begun = c.before.before.before.before.before.before in
-    let l : length begun.args.message.payload ≡ 32 = search rules in
-    let n = query_short given.0.0 begun.args.message.payload (legal begun given.1) in
-    let x : given.0.0 ≤ length begun.args.message.payload = omega arith in
+    let begun = c.before.before.before in
+    let l : length c.args.message.payload ≡ 32 = search rules in
+    let n = query_short c.in-QueryList.ids c.args.message.payload (legal begun c.in-QueryList.is) in
+    let x : c.in-QueryList.ids ≤ length c.args.message.payload = omega arith in
     x
 
-returns-5 : tie.Need-returns-5
+returns-5 : tie.Need-returns-in-QueryList
 returns-5 c =
     let answer = c.before.before in
     let status = answer.before.before in
-    let known = status.before.before.before in
-    let given = known.before.command3.given in
-    let begun = known.before.before.before.before.before in
+    let begun = status.before.before.before.before.before in
     let a = begun.args in
-    let n = given.0.0 in
+    let n = c.in-QueryList.ids in
     let p = a.message.payload in
-    sent_as_lem a.buffer.now (left_as begun given.1 ∙ carried_query a.state p a.image.now (length a.buffer.now) n)
+    sent_as_lem a.buffer.now (left_as begun c.in-QueryList.is ∙ carried_query a.state p a.image.now (length a.buffer.now) n)
     (sent_fitted (answer_bytes (status_of a.state) a.image.now (take n p)) a.buffer.now a.state
-    (query_listable n p (legal begun given.1)) (rw (status.status-of2.ensures, sub-zero n) at answer.answer2.ensures))
+    (query_listable n p (legal begun c.in-QueryList.is)) (rw (status.status_of-in-QueryList.ensures, sub-zero n) at answer.answer-in-QueryList.ensures))
 
 -- ---- all others
 
@@ -146,16 +141,16 @@ plain_is nothing t = refl
 plain_is (a_song n) t = absurd t
 plain_is (packets ids) t = absurd t
 
-returns-6 : tie.Need-returns-6
+returns-6 : tie.Need-returns-in_default
 returns-6 c =
     let begun = c.before.before.before.before in
     let a = begun.args in
     let x = a.message.command in
     let p = a.message.payload in
     let tags : List ℕ = from_to 0 17 ++ (21 ∷ 22 ∷ 23 ∷ 24 ∷ []) in
-    let t = of_tags (λ (y : Command). plain (effect_of y p).needs) tags (λ a b d v w. tt) x c.before.match.keys4 in
+    let t = of_tags (λ (y : Command). plain (effect_of y p).needs) tags (λ a b d v w. tt) x c.before.in_default.in_default-own.keys4 in
     sent_gives _ a.buffer.now (carried_plain a.state p a.image.now (length a.buffer.now) x (plain_is (effect_of x p).needs t))
-    c.done2.ensures
+    c.done-in_default.ensures
 
 pub carry_out_spec : {M : Type 1} → statement M
 carry_out_spec =

@@ -15,7 +15,7 @@ returns : tie.Need-returns
 returns c =
     let begun = c.before in
     let x = begun.args.songs in
-    let sixteen : length x.table ≡ 16 = sym (length-map x.table _) ∙ begun.well_formed.0.1.1.0.1.0.1 in
+    let sixteen : length x.table ≡ 16 = begun.well_formed.0.1.1.0.1.0.1 in
     ap is_set (get_d_any x.table begun.args.song (record { len = 0; notes = [] }) unset (omega (arith, begun.requires, sixteen)))
 
 pub is_set_spec : {M : Type 1} → statement M

@@ -12,11 +12,11 @@ use Rattle.command.proofs.VariantLaws.{of_tags}
 use Rattle.board.proofs.refusal_of.Statement.{statement}
 use Rattle.board.proofs.refusal_of.Tie as tie
 
-offered : tie.Need-returns-3
+offered : tie.Need-returns-in_default
 offered c =
     let tags : List ℕ = from_to 0 22 in
     sym (eqb→eq (refusal_of c.before.args.command) 0
-    (of_tags (λ (x : Command). eqb (refusal_of x) 0) tags (λ a b d v w. tt) c.before.args.command c.match.keys3))
+    (of_tags (λ (x : Command). eqb (refusal_of x) 0) tags (λ a b d v w. tt) c.before.args.command c.in_default.in_default-own.keys3))
 
 pub refusal_of_spec : {M : Type 1} → statement M
 refusal_of_spec =
@@ -24,6 +24,6 @@ refusal_of_spec =
     (tie.spec
     (λ c. search rules)
     (λ c. search rules)
-    (λ c. ap refusal_of (sym c.enum_told.given.1))
-    (λ c. ap refusal_of (sym c.enum-told2.given.1))
+    (λ c. ap refusal_of (sym c.in-Unknown.is))
+    (λ c. ap refusal_of (sym c.in-NotOffered.is))
     offered)

@@ -23,9 +23,9 @@ returns c =
     let a : SFits w16 m.first = search rules in
     let b : SFits w16 m.second = search rules in
     let velocity = fits first.present.result (search rules) ∙ rw (fits m.first a) at first.present.ensures in
-    let radius = fits second.present2.result (search rules) ∙ rw (fits m.second b) at second.present2.ensures in
-    let right = fits third.present3.result (search rules) ∙ rw (fits m.first a) at third.present3.ensures in
-    let left = fits c.present4.result (search rules) ∙ rw (fits m.second b) at c.present4.ensures in
+    let radius = fits second.present-2.result (search rules) ∙ rw (fits m.second b) at second.present-2.ensures in
+    let right = fits third.present-3.result (search rules) ∙ rw (fits m.first a) at third.present-3.ensures in
+    let left = fits c.present-4.result (search rules) ∙ rw (fits m.second b) at c.present-4.ensures in
     rw (velocity, radius, right, left) refl
 
 pub status_of_spec : {M : Type 1} → statement M

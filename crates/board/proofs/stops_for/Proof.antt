@@ -5,11 +5,11 @@ use borrow.Author.Rules.{rules}
 use Rattle.board.proofs.stops_for.Statement.{statement}
 use Rattle.board.proofs.stops_for.Tie as tie
 
-returns-3 : tie.Need-returns-3
+returns-3 : tie.Need-returns-then-cliff
 returns-3 c =
     let cliff = c.before in
     let charger = cliff.before in
-    c.into-cliff.ensures ∙ sym (simp (charger.before.if1.false, charger.if2.false, cliff.if3.true))
+    c.into_cliff.ensures ∙ sym (simp (charger.before.if-drop.false, charger.if-charger.false, cliff.if-cliff.true))
 
 pub stops_for_spec : {M : Type 1} → statement M
 stops_for_spec =

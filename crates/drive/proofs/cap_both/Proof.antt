@@ -35,7 +35,7 @@ module _ {s r : ℤ} (f : SFits w32 s) (g : SFits w32 r) (e : r ≡ cap_of (to_z
   changed = ap not (sym (by_bits r s g f) ∙ ap (λ (z : ℤ). same_number z s) capped) ∙ cap_changes s
 
 -- the two wheels
-module _ (c : tie.After-cap2) where
+module _ (c : tie.After-cap-left) where
   abbrev w : Wheels
   w = c.before.before.before.before.args.wheels
 
@@ -45,34 +45,34 @@ module _ (c : tie.After-cap2) where
   left_fits : SFits w32 w.left
   left_fits = search rules
 
-  right_given : SFits w32 c.before.before.cap.result
+  right_given : SFits w32 c.before.before.cap-right.result
   right_given = search rules
 
-  left_given : SFits w32 c.cap2.result
+  left_given : SFits w32 c.cap-left.result
   left_given = search rules
 
   -- with the flag of both
   whole : {t : Bool} → t ≡ (beyond w.right || beyond w.left)
-      → speeds (to_z w16 (of_z w16 (to_z w32 (of_z w32 c.before.before.cap.result)))) (to_z w16 (of_z w16 (to_z w32 (of_z w32 c.cap2.result)))) t ≡ given w
+      → speeds (to_z w16 (of_z w16 (to_z w32 (of_z w32 c.before.before.cap-right.result)))) (to_z w16 (of_z w16 (to_z w32 (of_z w32 c.cap-left.result)))) t ≡ given w
   whole flag i =
-      speeds (cast_held right_fits right_given c.before.before.cap.ensures i) (cast_held left_fits left_given c.cap2.ensures i) (flag i)
+      speeds (cast_held right_fits right_given c.before.before.cap-right.ensures i) (cast_held left_fits left_given c.cap-left.ensures i) (flag i)
 
-  right_changed : not (eqb (of_z w32 c.before.before.cap.result) (of_z w32 w.right)) ≡ beyond w.right
-  right_changed = changed right_fits right_given c.before.before.cap.ensures
+  right_changed : not (eqb (of_z w32 c.before.before.cap-right.result) (of_z w32 w.right)) ≡ beyond w.right
+  right_changed = changed right_fits right_given c.before.before.cap-right.ensures
 
-  left_changed : not (eqb (of_z w32 c.cap2.result) (of_z w32 w.left)) ≡ beyond w.left
-  left_changed = changed left_fits left_given c.cap2.ensures
+  left_changed : not (eqb (of_z w32 c.cap-left.result) (of_z w32 w.left)) ≡ beyond w.left
+  left_changed = changed left_fits left_given c.cap-left.ensures
 
-returns : tie.Need-returns
+returns : tie.Need-returns-then-right-wheels
 returns c =
     let both = c.before.before in
-    let far : beyond (w both).right ≡ true = sym (right_changed both) ∙ ap not (ne_eqb _ _ c.if1.true) in
+    let far : beyond (w both).right ≡ true = sym (right_changed both) ∙ ap not (ne_eqb _ _ c.if-right-wheels.true) in
     whole both (right_changed both ∙ far ∙ sym (simp far))
 
-returns-2 : tie.Need-returns-2
+returns-2 : tie.Need-returns-else-right-wheels
 returns-2 c =
     let both = c.before.before.before in
-    let near : beyond (w both).right ≡ false = sym (right_changed both) ∙ ap not (eq-eqb _ _ c.before.if1.false) in
+    let near : beyond (w both).right ≡ false = sym (right_changed both) ∙ ap not (eq-eqb _ _ c.before.if-right-wheels.false) in
     whole both (left_changed both ∙ sym (simp near))
 
 pub cap_both_spec : {M : Type 1} → statement M
@@ -81,7 +81,7 @@ cap_both_spec =
     (tie.spec
     (λ c κs. search rules)
     (λ c κs. search rules)
-    (λ c. cast_fits (right_fits c) (right_given c) c.before.before.cap.ensures)
-    (λ c. cast_fits (left_fits c) (left_given c) c.cap2.ensures)
+    (λ c. cast_fits (right_fits c) (right_given c) c.before.before.cap-right.ensures)
+    (λ c. cast_fits (left_fits c) (left_given c) c.cap-left.ensures)
     returns
     returns-2)

@@ -41,34 +41,34 @@ module _ {r : ℤ} (f : SFits w16 r) where
   other : (k : ℤ) → SFits w16 k → (of_z w16 r ≡ of_z w16 k → ⊥) → same_number r k ≡ false
   other k g ne = by_bits r k f g ∙ ne_eqb (of_z w16 r) (of_z w16 k) ne
 
-returns : tie.Need-returns
+returns : tie.Need-returns-in-1
 returns c =
     let f = c.before.ranges in
-    (λ i. wheels (wide_is f.velocity i) (minus_held f.velocity i)) ∙ sym (on_one _ _ (found f.radius 1 c.match.keys1))
+    (λ i. wheels (wide_is f.velocity i) (minus_held f.velocity i)) ∙ sym (on_one _ _ (found f.radius 1 c.in-1.in-1-own.keys1))
 
-returns-2 : tie.Need-returns-2
+returns-2 : tie.Need-returns-in-minus1
 returns-2 c =
     let f = c.before.ranges in
-    (λ i. wheels (minus_held f.velocity i) (wide_is f.velocity i)) ∙ sym (on_minus_one _ _ (found f.radius 65535 c.match.keys2))
+    (λ i. wheels (minus_held f.velocity i) (wide_is f.velocity i)) ∙ sym (on_minus_one _ _ (found f.radius 65535 c.in-minus1.in-minus1-own.keys2))
 
-returns-3 : tie.Need-returns-3
+returns-3 : tie.Need-returns-in-32767
 returns-3 c =
     let f = c.before.ranges in
     let v = c.before.args.velocity in
     let r = c.before.args.radius in
     (λ i. wheels (wide_is f.velocity i) (wide_is f.velocity i))
-    ∙ sym (⊎_elim (λ (e : of_z w16 r ≡ 32768). on_least v r (found f.radius 32768 e)) (λ (e : of_z w16 r ≡ 32767). on_straight v r (found f.radius 32767 e)) c.match.keys3)
+    ∙ sym (⊎_elim (λ (e : of_z w16 r ≡ 32768). on_least v r (found f.radius 32768 e)) (λ (e : of_z w16 r ≡ 32767). on_straight v r (found f.radius 32767 e)) c.in-32767.in-32767-own.keys3)
 
-returns-4 : tie.Need-returns-4
+returns-4 : tie.Need-returns-in_default
 returns-4 c =
     let first = c.before in
     let start = first.before.before in
     let f = start.ranges in
     let v = to_z-of_z f.velocity in
     let r = to_z-of_z f.radius in
-    let none = first.before.match.rest in
-    let right = to_z-of_z {w = w32} {z = first.on-curve.result} (search rules) ∙ rw (v, r) at first.on-curve.ensures in
-    let left = to_z-of_z {w = w32} {z = c.on-curve2.result} (search rules) ∙ rw (v, r) at c.on-curve2.ensures in
+    let none = first.before.in_default.in_default-own.rest in
+    let right = to_z-of_z {w = w32} {z = first.on_curve.result} (search rules) ∙ rw (v, r) at first.on_curve.ensures in
+    let left = to_z-of_z {w = w32} {z = c.on_curve-in_default.result} (search rules) ∙ rw (v, r) at c.on_curve-in_default.ensures in
     (λ i. wheels (right i) (left i))
     ∙ sym
     (on_plain start.args.velocity start.args.radius

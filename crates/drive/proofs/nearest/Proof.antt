@@ -36,13 +36,13 @@ module _ (op : ℤ → ℤ → ℤ) (bound : (x y : ℤ) → nat_abs (op x y) �
 rest_is : (c : tie.After-magnitude) → c.magnitude.result ≡ nat_abs (rem_z c.before.args.n c.before.args.d)
 rest_is c = c.magnitude.ensures ∙ ap nat_abs (remainder_held c.before.ranges.n c.before.ranges.d)
 
-divisor_is : (c : tie.After-magnitude2) → c.magnitude2.result ≡ nat_abs c.before.before.args.d
-divisor_is c = c.magnitude2.ensures ∙ ap nat_abs (to_z-of_z c.before.before.ranges.d)
+divisor_is : (c : tie.After-magnitude-2) → c.magnitude-2.result ≡ nat_abs c.before.before.args.d
+divisor_is c = c.magnitude-2.ensures ∙ ap nat_abs (to_z-of_z c.before.before.ranges.d)
 
 divided : (c : tie.Start) → (0 < of_z w32 c.args.d) × SFits w32 (quot_z (to_z w32 (of_z w32 c.args.n)) (to_z w32 (of_z w32 c.args.d)))
 divided c = division_asks c.ranges.n c.ranges.d (omega (arith, c.requires.1)) c.requires.0
 
-mul-if1 : tie.Need-overflow-mul-if1
+mul-if1 : tie.Need-overflow_mul-magnitude
 mul-if1 c =
     let a = c.before.args in
     record {
@@ -50,16 +50,16 @@ mul-if1 c =
           omega (arith, rest_is c, rem_abs a.n a.d, mod-lt (nat_abs a.n) c.before.requires.0, nat_abs-le a.d c.before.ranges.d.sfits);
     }
 
-returns : tie.Need-returns
+returns : tie.Need-returns-then-magnitude
 returns c =
     let start = c.before.before.before in
     let a = start.args in
     quotient_held start.ranges.n start.ranges.d (omega (arith, start.requires.1))
-    ∙ stays a.n a.d start.requires.0 (omega (arith, c.if1.true, rest_is c.before.before, divisor_is c.before))
+    ∙ stays a.n a.d start.requires.0 (omega (arith, c.if-magnitude.true, rest_is c.before.before, divisor_is c.before))
 
 -- twice the rest is no less than the divisor
-half : (c : tie.Else1) → nat_abs c.before.before.before.args.d ≤ 2 * nat_abs (rem_z c.before.before.before.args.n c.before.before.before.args.d)
-half c = omega (arith, c.if1.false, rest_is c.before.before, divisor_is c.before)
+half : (c : tie.Else-magnitude) → nat_abs c.before.before.before.args.d ≤ 2 * nat_abs (rem_z c.before.before.before.args.n c.before.before.before.args.d)
+half c = omega (arith, c.if-magnitude.false, rest_is c.before.before, divisor_is c.before)
 
 -- the test of the signs, of the numbers that the bits stand for
 signs : (c : tie.Start) {t : Bool}
@@ -67,17 +67,17 @@ signs : (c : tie.Start) {t : Bool}
     → beq (lt_z c.args.n (pos 0)) (lt_z c.args.d (pos 0)) ≡ t
 signs c e = rw (to_z-of_z c.ranges.n, to_z-of_z c.ranges.d) at e
 
-returns-2 : tie.Need-returns-2
+returns-2 : tie.Need-returns-then-n-d
 returns-2 c =
     let start = c.before.before.before.before in
     next_held ◌+ℤ◌ abs_sum start.ranges.n start.ranges.d start.requires.1
-    ∙ goes_up start.args.n start.args.d start.requires.0 (half c.before) (signs start c.if2.true)
+    ∙ goes_up start.args.n start.args.d start.requires.0 (half c.before) (signs start c.if-n-d.true)
 
-returns-3 : tie.Need-returns-3
+returns-3 : tie.Need-returns-else-n-d
 returns-3 c =
     let start = c.before.before.before.before in
     next_held ◌-ℤ◌ abs_difference start.ranges.n start.ranges.d start.requires.1
-    ∙ goes_below start.args.n start.args.d start.requires.0 (half c.before) (signs start c.if2.false)
+    ∙ goes_below start.args.n start.args.d start.requires.0 (half c.before) (signs start c.if-n-d.false)
 
 pub nearest_spec : {M : Type 1} → statement M
 nearest_spec =

@@ -52,7 +52,7 @@ nearest-requires c κs =
 returns : tie.Need-returns
 returns c =
     let f = c.before.ranges in
-    to_z-of_z (search rules)
+    to_z-of_z {w = w32} (search rules)
     ∙ c.nearest.ensures
     ∙ (λ i. nearest_of (product_held f.velocity f.radius f.offset c.before.requires.1 i) (wide_is f.radius i))
 

@@ -14,39 +14,39 @@ use Rattle.drive.proofs.wheel_speeds.Statement.{statement}
 use Rattle.drive.proofs.wheel_speeds.Tie as tie
 
 -- what the state record's test tells
-tested : (c : tie.After-wheels-ok) → c.wheels-ok.result ≡ legal_order c.before.args.kind c.before.args.first c.before.args.second
-tested c = rw (to_z-of_z c.before.ranges.first, to_z-of_z c.before.ranges.second) at c.wheels-ok.ensures
+tested : (c : tie.After-wheels_ok) → c.wheels_ok.result ≡ legal_order c.before.args.kind c.before.args.first c.before.args.second
+tested c = rw (to_z-of_z c.before.ranges.first, to_z-of_z c.before.ranges.second) at c.wheels_ok.ensures
 
-legal : (c : tie.Else1) → legal_order c.before.before.args.kind c.before.before.args.first c.before.before.args.second ≡ true
-legal c = sym (tested c.before) ∙ not-false _ c.if1.false
+legal : (c : tie.Else-not-wheels_ok) → legal_order c.before.before.args.kind c.before.before.args.first c.before.before.args.second ≡ true
+legal c = sym (tested c.before) ∙ not-false _ c.if-not-wheels_ok.false-raw
 
-returns : tie.Need-returns
-returns c = c.refuse.ensures ∙ sym (speeds_refused _ _ _ (sym (tested c.before.before) ∙ not-true _ c.before.if1.true))
+returns : tie.Need-returns-then-not-wheels_ok
+returns c = c.refuse.ensures ∙ sym (speeds_refused _ _ _ (sym (tested c.before.before) ∙ not-true _ c.before.if-not-wheels_ok.true-raw))
 
 curve-requires : tie.Need-curve-requires
 curve-requires c κs =
     let start = c.before.before.before in
-    rw (to_z-of_z start.ranges.second) (radius_above start.args.first start.args.second (rw c.match.keys1 at (legal c.before)))
+    rw (to_z-of_z start.ranges.second) (radius_above start.args.first start.args.second (rw c.in-1.is at (legal c.before)))
 
-returns-2 : tie.Need-returns-2
+returns-2 : tie.Need-returns-in-1
 returns-2 c =
     let arm = c.before.before in
     let start = arm.before.before.before in
     let curve = rw (to_z-of_z start.ranges.first, to_z-of_z start.ranges.second) at c.before.curve.ensures in
-    c.cap-both.ensures ∙ ap given curve ∙ sym (speeds_given _ _ _ (legal arm.before) (by_drive _ _ _ arm.match.keys1))
+    c.cap_both.ensures ∙ ap given curve ∙ sym (speeds_given _ _ _ (legal arm.before) (by_drive _ _ _ arm.in-1.is))
 
-returns-3 : tie.Need-returns-3
+returns-3 : tie.Need-returns-in-2
 returns-3 c =
     let arm = c.before in
     let start = arm.before.before.before in
-    c.cap-both2.ensures
+    c.cap_both-in-2.ensures
     ∙ (λ i. given (wheels (wide_is start.ranges.first i) (wide_is start.ranges.second i)))
-    ∙ sym (speeds_given _ _ _ (legal arm.before) (by_direct _ _ _ arm.match.keys2))
+    ∙ sym (speeds_given _ _ _ (legal arm.before) (by_direct _ _ _ arm.in-2.is))
 
-returns-4 : tie.Need-returns-4
+returns-4 : tie.Need-returns-in_default
 returns-4 c =
     let arm = c.before in
-    c.cap-both3.ensures ∙ sym (speeds_given _ _ _ (legal arm.before) (by_none _ _ _ arm.match.rest.0.1 arm.match.rest.1))
+    c.cap_both-in_default.ensures ∙ sym (speeds_given _ _ _ (legal arm.before) (by_none _ _ _ arm.in_default.in_default-own.rest.0.1 arm.in_default.in_default-own.rest.1))
 
 pub wheel_speeds_spec : {M : Type 1} → statement M
 wheel_speeds_spec =

@@ -7,7 +7,7 @@ use Rattle.board.proofs.effect.with_drivers.Tie as tie
 returns : tie.Need-returns
 returns c =
     let third = c.before in
-    rw (third.duty-of3.ensures, third.before.duty-of2.ensures, third.before.before.duty-of.ensures) at c.with-duties.ensures
+    rw (third.duty_of-3.ensures, third.before.duty_of-2.ensures, third.before.before.duty_of.ensures) at c.with_duties.ensures
 
 pub with_drivers_spec : {M : Type 1} → statement M
 with_drivers_spec =
