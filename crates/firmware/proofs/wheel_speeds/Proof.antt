@@ -22,11 +22,11 @@ returns : tie.Need-returns
 returns c =
     let called = c.before.before in
     let a = called.before.ranges in
-    let x = called.wheel_speeds.result in
+    let x = called.wheel_speeds-speeds.result in
     let f : SFits w16 x.right = search rules in
     let g : SFits w16 x.left = search rules in
-    let e = rw (to_z-of_z w16 _ a.first, to_z-of_z w16 _ a.second) at called.wheel_speeds.ensures in
-    speeds_are x (to_z-of_z w16 _ f) (to_z-of_z w16 _ g) c.before.flag-of.ensures ∙ ap wheel_speeds_of e
+    let e = rw (to_z-of_z w16 _ a.first, to_z-of_z w16 _ a.second) at called.wheel_speeds-speeds.ensures in
+    speeds_are x (to_z-of_z w16 _ f) (to_z-of_z w16 _ g) c.before.flag_of.ensures ∙ ap wheel_speeds_of e
 
 pub wheel_speeds_spec : {M : Type 1} → statement M
 wheel_speeds_spec = tie.close (tie.spec (λ c κs. search rules) (λ c κs. search rules) returns)

@@ -7,7 +7,7 @@ use Rattle.firmware.proofs.steps.same.Statement.{statement}
 use Rattle.firmware.proofs.steps.same.Tie as tie
 
 returns : tie.Need-returns
-returns c = c.flag-of.ensures ∙ ap flag_of c.before.same.ensures
+returns c = c.flag_of.ensures ∙ ap flag_of c.before.same.ensures
 
 pub same_spec : {M : Type 1} → statement M
 same_spec = tie.close (tie.spec (λ c κs. search rules) (λ c κs. search rules) returns)

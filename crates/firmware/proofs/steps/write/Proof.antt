@@ -14,7 +14,7 @@ returns c =
     let wrote = c.before.before in
     let message = wrote.before.before in
     let before = message.before.before.args.buffer.now in
-    let says = message.message-of.ensures in (
+    let says = message.message_of.ensures in (
       wrote.write.ensures.sent ∙ ap (λ (m : Message). sent_of (write_reply m (length before))) says,
       wrote.write.ensures.buffer ∙ ap (λ (m : Message). left_in (write_reply m (length before)) before) says,
     )
