@@ -1,5 +1,6 @@
-// The board for firmware in C or Rust: `rt staticlib firmware` writes the archive, bindings/c has
-// the header and bindings/rust the package; docs/FIRMWARE.md says what to call when.
+// The board for firmware in C or Rust: the crate `firmware_c` exports these calls, `tools/archive`
+// writes the archive, bindings/c has the header and bindings/rust the package; docs/FIRMWARE.md says
+// what to call when.
 //
 // Each call of the board is lent the state record, hands it to the board by value and stores what
 // comes back. Nothing is kept between two calls. What crosses, in or out, is numbers alone, no bool
@@ -52,16 +53,14 @@ pub struct WheelSpeeds {
 }
 
 // The record at power-on, whatever stood there.
-#[unsafe(no_mangle)]
-pub extern "C" fn board_power_on(state: &mut State)
+pub fn board_power_on(state: &mut State)
     ensures { state.new ≡ power_on }
 {
     *state = state::power_on();
 }
 
 // One byte.
-#[unsafe(no_mangle)]
-pub extern "C" fn board_byte(state: &mut State, b: u8, image: &[u8; 40], buffer: &mut [u8]) -> Reply
+pub fn board_byte(state: &mut State, b: u8, image: &[u8; 40], buffer: &mut [u8]) -> Reply
     ensures { (state.new ≡ (answered (byte_of state.old b image.now (length buffer.old))).state)
         × (result.number ≡ (answered (byte_of state.old b image.now (length buffer.old))).number)
         × (result.length ≡ (answered (byte_of state.old b image.now (length buffer.old))).length)
@@ -76,13 +75,7 @@ pub extern "C" fn board_byte(state: &mut State, b: u8, image: &[u8; 40], buffer:
 }
 
 // Bytes, up to the first that does not wait (rule U1).
-#[unsafe(no_mangle)]
-pub extern "C" fn board_run(
-    state: &mut State,
-    bytes: &[u8],
-    image: &[u8; 40],
-    buffer: &mut [u8],
-) -> RunReply
+pub fn board_run(state: &mut State, bytes: &[u8], image: &[u8; 40], buffer: &mut [u8]) -> RunReply
     ensures { (state.new ≡ (ran_as (run_of state.old bytes.now image.now (length buffer.old))).state)
         × (result.number ≡ (ran_as (run_of state.old bytes.now image.now (length buffer.old))).number)
         × (result.length ≡ (ran_as (run_of state.old bytes.now image.now (length buffer.old))).length)
@@ -100,8 +93,7 @@ pub extern "C" fn board_run(
 
 // A safety report. Of a flag 0 is clear, and any other number is set. It has no answer bytes, so
 // that what comes back is the number.
-#[unsafe(no_mangle)]
-pub extern "C" fn board_safety_report(state: &mut State, drop: u8, cliff: u8, charger: u8) -> u8
+pub fn board_safety_report(state: &mut State, drop: u8, cliff: u8, charger: u8) -> u8
     ensures { (state.new ≡ (answered (report_of state.old (flag_set drop) (flag_set cliff) (flag_set charger))).state)
         × (result ≡ (answered (report_of state.old (flag_set drop) (flag_set cliff) (flag_set charger))).number) }
 {
@@ -111,8 +103,7 @@ pub extern "C" fn board_safety_report(state: &mut State, drop: u8, cliff: u8, ch
 }
 
 // A tick.
-#[unsafe(no_mangle)]
-pub extern "C" fn board_tick(state: &mut State, image: &[u8; 40], buffer: &mut [u8]) -> Reply
+pub fn board_tick(state: &mut State, image: &[u8; 40], buffer: &mut [u8]) -> Reply
     ensures { (state.new ≡ (answered (tick_of state.old image.now (length buffer.old))).state)
         × (result.number ≡ (answered (tick_of state.old image.now (length buffer.old))).number)
         × (result.length ≡ (answered (tick_of state.old image.now (length buffer.old))).length)
@@ -127,8 +118,7 @@ pub extern "C" fn board_tick(state: &mut State, image: &[u8; 40], buffer: &mut [
 }
 
 // A song end.
-#[unsafe(no_mangle)]
-pub extern "C" fn board_song_end(state: &mut State) -> u8
+pub fn board_song_end(state: &mut State) -> u8
     ensures { (state.new ≡ (answered (song_end_of state.old)).state) × (result ≡ (answered (song_end_of state.old)).number) }
 {
     let a = board::song_end(*state);
@@ -137,24 +127,21 @@ pub extern "C" fn board_song_end(state: &mut State) -> u8
 }
 
 // Whether the board takes a record: 1 yes; 0 no, and then the calls above answer 8.
-#[unsafe(no_mangle)]
-pub extern "C" fn board_accepts(state: &State) -> u8
+pub fn board_accepts(state: &State) -> u8
     ensures { result ≡ flag_of (accepted_of state.now) }
 {
     steps::accepted(*state)
 }
 
 // Whether two records are the same in every field: 1 yes, 0 no.
-#[unsafe(no_mangle)]
-pub extern "C" fn board_same(a: &State, b: &State) -> u8
+pub fn board_same(a: &State, b: &State) -> u8
     ensures { result ≡ flag_of (same_state a.now b.now) }
 {
     steps::same(*a, *b)
 }
 
 // The host-side writer, of a message in flat fields: 4, then 7, then the frame.
-#[unsafe(no_mangle)]
-pub extern "C" fn host_write(message: &Fields, buffer: &mut [u8]) -> Reply
+pub fn host_write(message: &Fields, buffer: &mut [u8]) -> Reply
     ensures { (result.number ≡ (sent_of (write_reply (message_of message.now) (length buffer.old))).number)
         × (result.length ≡ (sent_of (write_reply (message_of message.now) (length buffer.old))).length)
         × (buffer.new ≡ left_in (write_reply (message_of message.now) (length buffer.old)) buffer.old) }
@@ -167,8 +154,7 @@ pub extern "C" fn host_write(message: &Fields, buffer: &mut [u8]) -> Reply
 }
 
 // The speed of each wheel by a wheel order of the record: its kind and its two numbers.
-#[unsafe(no_mangle)]
-pub extern "C" fn wheel_speeds(kind: u8, first: i16, second: i16) -> WheelSpeeds
+pub fn wheel_speeds(kind: u8, first: i16, second: i16) -> WheelSpeeds
     ensures { result ≡ wheel_speeds_of (speeds_of kind first second) }
 {
     let speeds = drive::wheel_speeds(kind, first, second);
