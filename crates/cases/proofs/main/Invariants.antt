@@ -1,0 +1,6 @@
+-- `cases::main` is safe and ends.
+-- Assumes nothing.
+use Rattle.cases.proofs.main.Given as goal
+
+abbrev pub decreases-loop-turns : goal.decreases-loop-turns
+decreases-loop-turns l = l.turns

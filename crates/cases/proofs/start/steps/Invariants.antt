@@ -1,0 +1,6 @@
+-- `cases::start::steps` is safe and ends.
+-- Assumes nothing.
+use Rattle.cases.proofs.start.steps.Given as goal
+
+abbrev pub decreases-loop-turns : goal.decreases-loop-turns
+decreases-loop-turns l = l.turns
