@@ -1,4 +1,4 @@
--- `state::compare::same_kept_lem` meets its contract.
+-- `state::compare::same_kept` meets its contract.
 -- Assumes nothing.
 use mathlib.Core.Path.{◌≡◌, sym, ◌∙◌}
 use borrow.Author.Rules.{rules}
