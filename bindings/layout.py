@@ -16,7 +16,7 @@ import sys
 
 ROOT = os.path.dirname(os.path.dirname(os.path.abspath(__file__)))
 HEADER = os.path.join(ROOT, "bindings", "c", "rawdhusaq.h")
-CRATES = ["frame", "command", "state", "firmware"]
+CRATES = ["frame", "command", "state", "firmware", "firmware_c"]
 # A struct's name in C is its own name with a prefix, but for this one.
 RENAMED = {"Fields": "RawdhusaqMessage"}
 SCALARS = {"u8": ("uint8_t", 1), "i16": ("int16_t", 2), "usize": ("size_t", 8)}
@@ -52,7 +52,8 @@ def rattle_structs():
     structs = {}
     for text in sources():
         text = re.sub(r"//[^\n]*", "", text)
-        for found in re.finditer(r"#\[repr\(C\)\]\s*pub struct (\w+) \{([^}]*)\}", text):
+        for found in re.finditer(r"#\[repr\(C\)\]\s*(?:#\[derive\([^)]*\)\]\s*)?"
+                                 r"pub struct (\w+) \{([^}]*)\}", text):
             fields = re.findall(r"pub (\w+): ([^,]+?),", found[2])
             if found[1] in structs or not fields:
                 fail(f"the struct {found[1]} is there twice, or has no fields that can be read")
@@ -63,27 +64,28 @@ def rattle_structs():
 def sizes_of(structs, folder):
     """Size and alignment of each struct, which the toolchain proves of the struct's text: a crate
     of the structs alone has nothing else to prove, and takes a second."""
-    source = os.path.join(folder, "layout", "src")
+    crate = os.path.join(folder, "layout")
+    source = os.path.join(crate, "src")
     generated = os.path.join(folder, "generated")
     os.makedirs(source)
     with open(os.path.join(source, "lib.rt"), "w", encoding="utf-8") as file:
         file.write("\n\n".join(text for text, _ in structs.values()) + "\n")
-    ran = subprocess.run(["rt", "check", os.path.dirname(source), "--generated", generated],
-                         cwd=folder, capture_output=True, text=True)
-    if ran.returncode != 0:
-        fail(f"the toolchain refuses the structs:\n{ran.stdout}{ran.stderr}")
+    for command in (["rt", "check", "layout"], ["rt", "check", "layout", "--generated", generated]):
+        ran = subprocess.run(command, cwd=crate, capture_output=True, text=True)
+        if ran.returncode != 0:
+            fail(f"the toolchain refuses the structs:\n{ran.stdout}{ran.stderr}")
     sizes = {}
     for struct in structs:
-        path = os.path.join(generated, "Rattle·layout·proofs", "proofs", struct, "Laws.antt")
+        path = os.path.join(generated, "Rattle-layout-proofs", struct, "TheLaws.antt")
         if not os.path.exists(path):
             fail(f"the toolchain gives no laws of the struct {struct}")
         with open(path, encoding="utf-8") as file:
-            laws = file.read()
-        found = [re.search(rf"^{law}-is : .* \(Memory\.{law} mir\) (\d+)$", laws, re.M)
-                 for law in ("size", "align")]
-        if None in found:
+            laws = " ".join(file.read().split())
+        # What it proves of how the struct lies comes first, then the structs in it.
+        found = re.search(r"given = List\.◌∷◌ \(Laid\.laid_struct (\d+) (\d+) ", laws)
+        if found is None:
             fail(f"the toolchain gives no size or no alignment of the struct {struct}")
-        sizes[struct] = tuple(int(number[1]) for number in found)
+        sizes[struct] = (int(found[1]), int(found[2]))
     return sizes
 
 

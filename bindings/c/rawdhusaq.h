@@ -1,6 +1,6 @@
 /* Rawdhusaq: the proved core of a telepresence robot, for firmware in C and C++.
  *
- * The archive is target/staticlib/libfirmware.a, made by `rt staticlib firmware`, for Linux on
+ * The archive is target/staticlib/libfirmware.a, made by `tools/archive`, for Linux on
  * x86-64; docs/FIRMWARE.md says how to build, what to call when, and what to do with each number.
  * The rules are docs/HOST.md's; what a call promises here is the contract that stands at its
  * function in crates/firmware/src/lib.rt, and is proved there. Not proved, and trusted: that this

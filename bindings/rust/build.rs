@@ -57,7 +57,7 @@ fn check_archive(archive: &Path) -> Result<(), String> {
         return Ok(());
     }
     Err(format!(
-        "there is no {}: make it by `rt staticlib firmware` in the repository's root, \
+        "there is no {}: make it by `tools/archive` in the repository's root, \
          or name its folder in {DIR_VARIABLE}",
         archive.display()
     ))

@@ -38,7 +38,7 @@ const NUMBER: usize = 13;
 // back the number, how many bytes a run read, the bytes of an answer, and of wheel speeds the right
 // and the left one and whether they are capped. Not ok where a word was bad, and then it has been
 // said.
-#[derive(Drop)]
+#[derive(Clone, Copy)]
 pub struct Fields {
     pub kind: usize,
     pub bytes: [u8; 512],

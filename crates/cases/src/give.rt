@@ -6,7 +6,7 @@ use state::State;
 use terminal::{wide, within};
 
 // What a call gives, with the whole buffer that was lent.
-#[derive(Drop)]
+#[derive(Clone, Copy)]
 pub struct Given {
     pub number: usize,
     pub read: usize,

@@ -123,11 +123,11 @@ fn finish(session: Session, came: u8) {
 
 // A proved loop has to end, and nothing says that the input does: the turns count down from a
 // number that no run uses up.
-fn main() {
+fn main(rt: HostRuntime) {
     let mut kept = [0u8; LONGEST];
     let text: &mut [u8] = &mut kept;
     let mut session = session::opened();
-    let mut input = terminal::open();
+    let mut input = terminal::open(rt.stdin());
     let mut turns = u64::MAX;
     while turns > 0 {
         let got = terminal::next_line(input, text);

@@ -34,7 +34,7 @@ const CELLS: usize = 6;
 // What the cells of a line say: the record before, and the one expected after or beside it; the
 // call; what is expected to come back, and what comes back first where there are two; a command.
 // Not ok where a cell was bad, and then it has been said.
-#[derive(Drop)]
+#[derive(Clone, Copy)]
 pub struct Row {
     pub before: State,
     pub after: State,

@@ -14,14 +14,14 @@ pub const BEFORE: usize = 1;
 pub const OFF: usize = 2;
 
 // Their names, with blanks between them.
-#[derive(Drop)]
+#[derive(Clone, Copy)]
 pub struct Names {
     pub text: [u8; 512],
     pub size: usize,
     pub count: usize,
 }
 
-#[derive(Drop)]
+#[derive(Clone, Copy)]
 pub struct Session {
     pub states: [State; RECORDS],
     pub names: Names,

@@ -8,7 +8,7 @@ use state::State;
 
 // A record, the place that is read next, and whether there is more; not ok where a word was bad,
 // and then it has been said.
-#[derive(Drop)]
+#[derive(Clone, Copy)]
 pub struct Begun {
     pub state: State,
     next: usize,

@@ -13,7 +13,7 @@ const LABEL: usize = 30;
 const FEW: usize = 8;
 
 // What came back of a call, its answer at the start of the bytes.
-#[derive(Drop)]
+#[derive(Clone, Copy)]
 pub struct Came {
     pub state: State,
     pub number: u8,
@@ -23,7 +23,7 @@ pub struct Came {
 }
 
 // A session after some bytes of those to give.
-#[derive(Drop)]
+#[derive(Clone, Copy)]
 struct Fed {
     session: Session,
     read: usize,

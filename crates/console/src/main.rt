@@ -15,6 +15,9 @@ mod stop;
 mod texts;
 
 use session::Session;
+use std::env::FillError;
+use std::io::{IsTerminal, Stdin};
+use std::rt::Env;
 use terminal::{Line, say_shown, within};
 use texts::{ARGUMENT, LONG, NO_INPUT, PROMPT, UNREADABLE, WELCOME, tell_one, tell_plain};
 
@@ -77,11 +80,11 @@ fn prompt(asks: bool) {
 
 // A proved loop has to end, and nothing says that the input does: the turns count down from a
 // number that no run uses up.
-fn read_all(session: Session, asks: bool) {
+fn read_all(session: Session, stdin: Stdin, asks: bool) {
     let mut space = [0u8; LONGEST];
     let text: &mut [u8] = &mut space;
     let mut now = session;
-    let mut input = terminal::open();
+    let mut input = terminal::open(stdin);
     let mut turns = u64::MAX;
     while turns > 0 {
         prompt(asks);
@@ -100,25 +103,28 @@ fn read_all(session: Session, asks: bool) {
 }
 
 // The console takes no argument; one is told, and what it takes instead.
-fn say_argument() {
-    let mut word = [0u8; 64];
-    let n = os::arg(1, &mut word);
-    if wire::same(&word[..n], b"--help") {
+fn say_argument(word: &[u8]) {
+    if wire::same(word, b"--help") {
         help::say_help();
         return;
     }
-    say_shown(&word[..n]);
+    say_shown(word);
     tell_plain(ARGUMENT);
 }
 
-fn main() {
-    if os::arg_count() > 1 {
-        say_argument();
-        return;
-    }
-    let asks = libc::isatty(libc::STDIN_FILENO) == 1;
+fn begin(stdin: Stdin) {
+    let asks = stdin.is_terminal();
     if asks {
         tell_plain(WELCOME);
     }
-    read_all(session::opened(), asks);
+    read_all(session::opened(), stdin, asks);
+}
+
+fn main(rt: HostRuntime) {
+    let mut word = [0u8; 64];
+    match rt.arg(1, &mut word) {
+        Ok(n) => say_argument(&word[..n]),
+        Err(FillError::TooLong) => say_argument(b""),
+        Err(FillError::NotPresent) => begin(rt.stdin()),
+    }
 }

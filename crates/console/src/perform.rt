@@ -32,7 +32,7 @@ fn say_wants(session: Session, place: usize, what: usize) -> Session {
 }
 
 // The words after `report`: which of the three it has; another word is bad.
-#[derive(Drop)]
+#[derive(Clone, Copy)]
 struct Flags {
     drop: bool,
     cliff: bool,
@@ -78,7 +78,7 @@ fn report(session: Session, text: &[u8], from: usize) -> Session {
 }
 
 // The number that a word says, and the place after it; above 65535 where it says none.
-#[derive(Drop)]
+#[derive(Clone, Copy)]
 struct Count {
     value: usize,
     start: usize,

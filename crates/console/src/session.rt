@@ -2,7 +2,7 @@
 // line's number, and how what comes back is shown.
 use state::State;
 
-#[derive(Drop)]
+#[derive(Clone, Copy)]
 pub struct Session {
     pub state: State,
     pub image: [u8; 40],

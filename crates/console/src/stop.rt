@@ -9,7 +9,7 @@ const ENOUGH: usize = 511;
 
 // A session, how many bytes were given, the byte from which on the last number was given, and the
 // first byte that was read as an opcode, both counted from 1, 0 for none.
-#[derive(Drop)]
+#[derive(Clone, Copy)]
 struct Stopping {
     session: Session,
     given: usize,

@@ -68,7 +68,7 @@ fn say_range(bytes: &[u8], from: usize, to: usize) {
 }
 
 // A part of them, where a place and a count pick one.
-#[derive(Drop)]
+#[derive(Clone, Copy)]
 struct Range {
     from: usize,
     to: usize,

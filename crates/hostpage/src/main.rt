@@ -102,10 +102,10 @@ fn take(page: Page, line: &[u8], size: usize, cut: bool) -> Page {
 
 // A proved loop has to end, and nothing says that the input does: the turns count down from a
 // number that no run uses up.
-fn main() {
+fn main(rt: HostRuntime) {
     let mut kept = [0u8; LONGEST];
     let line: &mut [u8] = &mut kept;
-    let mut input = terminal::open();
+    let mut input = terminal::open(rt.stdin());
     let mut page = page::blank();
     let mut turns = u64::MAX;
     while turns > 0 {

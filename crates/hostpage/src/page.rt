@@ -9,7 +9,7 @@ use terminal::{plus, say, say_form};
 // the command where it had a name, with the first bytes of its frame, its opcode, the writer's
 // number, the mode before it, its bytes, which are those from `from` to `end` of all that were
 // given since power-on, and the number and the answer that came back.
-#[derive(Drop)]
+#[derive(Clone, Copy)]
 pub struct Page {
     pub form: [u8; 256],
     pub answer: [u8; 1024],

@@ -14,7 +14,7 @@ const ROOM: usize = 24;
 const BLOCK: usize = 8;
 
 // A line of which some bytes are there: their number, and whether some did not fit.
-#[derive(Drop)]
+#[derive(Clone, Copy)]
 struct Held {
     size: usize,
     cut: bool,

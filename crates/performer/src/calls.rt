@@ -10,7 +10,7 @@ const IMAGE: u8 = 5;
 
 // What settings leave for the calls after them: the sensor image, and the length of the buffer that
 // is lent.
-#[derive(Drop)]
+#[derive(Clone, Copy)]
 pub struct Setup {
     pub image: [u8; 40],
     pub room: usize,
@@ -25,7 +25,7 @@ pub fn first_setup() -> Setup {
 }
 
 // What a call gives, but for the record.
-#[derive(Drop)]
+#[derive(Clone, Copy)]
 pub struct Given {
     pub number: u8,
     pub length: usize,

@@ -3,6 +3,7 @@
 ghost use Rattle.std.specs.Prelude.{◌<◌, ◌≤◌, length};
 
 use crate::layout::{byte_at, word_at};
+use std::io::{Read, Stdin};
 use terminal::{plus, say_form, wide, within};
 
 // More than the longest record: a run of 1,024 bytes.
@@ -36,11 +37,12 @@ const END: u8 = 6;
 
 const FAILED: u8 = 7;
 
-// The bytes of the block that are not used yet, and the offset of the first of them in the file.
-// `over` is WHOLE while there may be more. A proved loop has to end, and nothing says that the
-// input does: the turns count down from a number that no file uses up.
-#[derive(Drop)]
+// Where the file is read from, the bytes of the block that are not used yet, and the offset of the
+// first of them in the file. `over` is WHOLE while there may be more. A proved loop has to end, and
+// nothing says that the input does: the turns count down from a number that no file uses up.
+#[derive(Clone, Copy)]
 pub struct Window {
+    pub stdin: Stdin,
     pub from: usize,
     pub end: usize,
     pub offset: usize,
@@ -49,7 +51,7 @@ pub struct Window {
 }
 
 // A record: its kind, and where its body lies in the block.
-#[derive(Drop)]
+#[derive(Clone, Copy)]
 pub struct Record {
     pub kind: u8,
     pub start: usize,
@@ -75,24 +77,35 @@ fn move_down(block: &mut [u8], from: usize, size: usize) {
     }
 }
 
-fn over_by(got: isize) -> u8 {
-    if got < 0 {
-        return FAILED;
+// What a read came to: how many bytes, and whether the file is over.
+#[derive(Clone, Copy)]
+struct Got {
+    size: usize,
+    over: u8,
+}
+
+fn read(from: Stdin, rest: &mut [u8]) -> Got {
+    let mut stdin = from;
+    match stdin.read(rest) {
+        Ok(0) => Got { size: 0, over: END },
+        Ok(size) => Got { size, over: WHOLE },
+        Err(_) => Got {
+            size: 0,
+            over: FAILED,
+        },
     }
-    if got == 0 { END } else { WHOLE }
 }
 
 fn read_more(window: Window, block: &mut [u8]) -> Window {
     let size = within(left(window), block);
     move_down(block, window.from, size);
-    let rest = &mut block[size..];
-    let got = libc::read(libc::STDIN_FILENO, rest);
-    let more = io::count(got, rest);
+    let got = read(window.stdin, &mut block[size..]);
     Window {
+        stdin: window.stdin,
         from: 0,
-        end: plus(size, more),
+        end: plus(size, got.size),
         offset: window.offset,
-        over: over_by(got),
+        over: got.over,
         turns: window.turns,
     }
 }
@@ -112,8 +125,9 @@ fn filled(window: Window, block: &mut [u8]) -> Window {
 }
 
 // The start of the file.
-pub fn open(block: &mut [u8]) -> Window {
+pub fn open(stdin: Stdin, block: &mut [u8]) -> Window {
     let window = Window {
+        stdin,
         from: 0,
         end: 0,
         offset: 0,

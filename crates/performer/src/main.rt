@@ -11,6 +11,8 @@ mod tally;
 
 use calls::Given;
 use state::State;
+use std::io::Stdin;
+use std::rt::Env;
 use tally::{Sink, Tally};
 use terminal::{say, within};
 
@@ -32,10 +34,12 @@ fn style_named(word: &[u8]) -> u8 {
     }
 }
 
-fn style_asked() -> u8 {
+fn style_asked(rt: &impl Env) -> u8 {
     let mut word = [0u8; 16];
-    let n = os::arg(1, &mut word);
-    style_named(&word[..n])
+    match rt.arg(1, &mut word) {
+        Ok(n) => style_named(&word[..n]),
+        Err(_) => WHOLE,
+    }
 }
 
 // What a call gave is counted and digested, or told; and its answer is cleared for the next one.
@@ -84,14 +88,14 @@ fn finish(tally: Tally, numbers: [usize; 10], style: u8, offset: usize, fault: u
 // The whole file. The record stands in an array of two, by turns the one before a call and the one
 // after it, so that the compiler moves it as a whole; and runs are called here, so that what they
 // give is moved once.
-fn perform(first: State, style: u8, block: &mut [u8]) {
+fn perform(stdin: Stdin, first: State, style: u8, block: &mut [u8]) {
     let mut space = [0u8; 1024];
     let buffer: &mut [u8] = &mut space;
     let mut states = [first; 2];
     let mut setup = calls::first_setup();
     let mut numbers = [0usize; 10];
     let mut tally = tally::nothing();
-    let mut window = input::open(block);
+    let mut window = input::open(stdin, block);
     while window.turns > 0 {
         let record = input::next(window, block);
         if record.fault != input::WHOLE {
@@ -121,7 +125,8 @@ fn perform(first: State, style: u8, block: &mut [u8]) {
     }
 }
 
-fn main() {
+fn main(rt: HostRuntime) {
     let mut space = io::large_buffer();
-    perform(state::power_on(), style_asked(), &mut space);
+    let style = style_asked(&rt);
+    perform(rt.stdin(), state::power_on(), style, &mut space);
 }

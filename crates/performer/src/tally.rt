@@ -4,7 +4,7 @@ use std::num::wrapping_add_usize;
 use terminal::{plus, say, say_form, wide, within};
 
 // How many calls, the bytes answered, and the digest.
-#[derive(Drop)]
+#[derive(Clone, Copy)]
 pub struct Tally {
     pub calls: usize,
     pub bytes: usize,
@@ -12,7 +12,7 @@ pub struct Tally {
 }
 
 // Where the bytes of a record go, one after the other: into the digest, or to the trace.
-#[derive(Drop)]
+#[derive(Clone, Copy)]
 pub struct Sink {
     pub digest: u64,
     pub traces: bool,

@@ -15,7 +15,7 @@ const SPACE: u8 = 32;
 
 // How far a form is written: the text that waits, the columns written, the mark whose number comes
 // next (0 for none), and in brackets which alternative is wanted and which one this is.
-#[derive(Drop)]
+#[derive(Clone, Copy)]
 struct Form {
     text: [u8; 256],
     size: usize,

@@ -3,6 +3,7 @@
 ghost use Rattle.std.specs.Prelude.{◌≡◌, ◌≤◌, length};
 
 use crate::output::within;
+use std::io::{Read, Stdin};
 
 // What a reading came to: a line, the end of the input, or a read that failed.
 pub const LINE: u8 = 0;
@@ -11,10 +12,11 @@ pub const END: u8 = 1;
 
 pub const FAILED: u8 = 2;
 
-// A block, the place in it of the next byte and after its last one, the number of the last line,
-// and whether there is more.
-#[derive(Drop)]
+// Where it is read from, a block, the place in it of the next byte and after its last one, the
+// number of the last line, and whether there is more.
+#[derive(Clone, Copy)]
 pub struct Input {
+    pub stdin: Stdin,
     pub block: [u8; 4096],
     pub from: usize,
     pub end: usize,
@@ -24,7 +26,7 @@ pub struct Input {
 
 // A line: its bytes are the first `size` of the line lent; `cut` where more did not fit and were
 // passed over.
-#[derive(Drop)]
+#[derive(Clone, Copy)]
 pub struct Line {
     pub input: Input,
     pub size: usize,
@@ -33,8 +35,9 @@ pub struct Line {
 }
 
 // Before anything is read.
-pub fn open() -> Input {
+pub fn open(stdin: Stdin) -> Input {
     Input {
+        stdin,
         block: [0u8; 4096],
         from: 0,
         end: 0,
@@ -43,11 +46,23 @@ pub fn open() -> Input {
     }
 }
 
-fn over_by(got: isize) -> u8 {
-    if got < 0 {
-        return FAILED;
+// What a read came to: how many bytes, and whether there is more.
+#[derive(Clone, Copy)]
+struct Got {
+    size: usize,
+    over: u8,
+}
+
+fn read(from: Stdin, block: &mut [u8]) -> Got {
+    let mut stdin = from;
+    match stdin.read(block) {
+        Ok(0) => Got { size: 0, over: END },
+        Ok(size) => Got { size, over: LINE },
+        Err(_) => Got {
+            size: 0,
+            over: FAILED,
+        },
     }
-    if got == 0 { END } else { LINE }
 }
 
 // The next block. Once the input is over it is not asked again.
@@ -56,14 +71,14 @@ fn filled(input: Input) -> Input {
         return input;
     }
     let mut block = io::buffer();
-    let got = libc::read(libc::STDIN_FILENO, &mut block);
-    let end = io::count(got, &block);
+    let got = read(input.stdin, &mut block);
     Input {
+        stdin: input.stdin,
         block,
         from: 0,
-        end,
+        end: got.size,
         line_number: input.line_number,
-        over: over_by(got),
+        over: got.over,
     }
 }
 

@@ -10,7 +10,7 @@ pub const MOST: usize = 512;
 
 // Numbers from 0 to 255, in the first places; not ok where one of them was bad, and then it has
 // been said.
-#[derive(Drop)]
+#[derive(Clone, Copy)]
 pub struct Bytes {
     pub values: [u8; 512],
     pub count: usize,
@@ -18,7 +18,7 @@ pub struct Bytes {
 }
 
 // A number with a sign, and the place after it.
-#[derive(Drop)]
+#[derive(Clone, Copy)]
 pub struct Signed {
     pub value: i16,
     pub next: usize,
@@ -34,7 +34,7 @@ const TOO_LARGE: u8 = 2;
 const BELOW_ZERO: u8 = 3;
 
 // A byte, and what is wrong with its word.
-#[derive(Drop)]
+#[derive(Clone, Copy)]
 struct Checked {
     value: u8,
     fault: u8,

@@ -2,16 +2,17 @@
 // laid out.
 ghost use Rattle.std.specs.Prelude.{◌≡◌, ◌<◌, ◌≤◌, length};
 
-use libc::{STDERR_FILENO, STDOUT_FILENO};
+const STDOUT: i32 = 1;
+
+const STDERR: i32 = 2;
 
 // Text as it is. Output that cannot be written is told once, where it still may be seen: standard
 // error is closed behind it, so that a later failure has nowhere to go.
 pub fn say(text: &[u8]) -> usize
     ensures { result ≡ length text.now }
 {
-    if !io::write_all(STDOUT_FILENO, text) {
-        io::write_all(STDERR_FILENO, b"standard output cannot be written\n");
-        libc::close(STDERR_FILENO);
+    if !io::write_all(STDOUT, text) {
+        io::write_all(STDERR, b"standard output cannot be written\n");
     }
     text.len()
 }

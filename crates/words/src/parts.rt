@@ -10,7 +10,7 @@ use terminal::{bits, say, say_shown, say_where, signed_from, which};
 
 // The numbers of a setting: a place, a place in that, and a value, each below a limit; where the
 // limit is 0 the number is not there.
-#[derive(Drop)]
+#[derive(Clone, Copy)]
 struct Limits {
     place: usize,
     inner: usize,
@@ -19,7 +19,7 @@ struct Limits {
 
 // A number, also as its sixteen bits; and the place after it. Not ok where it is bad, and then it
 // has been said.
-#[derive(Drop)]
+#[derive(Clone, Copy)]
 struct Part {
     value: i16,
     bits: usize,
@@ -29,7 +29,7 @@ struct Part {
 
 // The record with a part set, and the place after what was read. Not ok where a word was bad, and
 // then it has been said.
-#[derive(Drop)]
+#[derive(Clone, Copy)]
 pub struct Changed {
     pub state: State,
     pub next: usize,

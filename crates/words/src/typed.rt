@@ -7,7 +7,7 @@ use terminal::{bytes_from, ends, say, say_wanted, say_where, signed_from};
 
 // A command, and the first bytes of its frame. Not ok where the values were bad, and then it has
 // been said.
-#[derive(Drop)]
+#[derive(Clone, Copy)]
 pub struct Typed {
     pub message: Message,
     pub bytes: [u8; 35],
@@ -15,7 +15,7 @@ pub struct Typed {
 }
 
 // The 35 bytes of a frame, of which those that are not in use are 0.
-#[derive(Drop)]
+#[derive(Clone, Copy)]
 struct Framed {
     bytes: [u8; 35],
     ok: bool,

@@ -23,7 +23,7 @@ filled s at {z} h l x =
 returns : tie.Need-returns
 returns c =
     let start = c.before.before.before.before in
-    filled start.args.s.now start.args.at start.requires refl c.before.put-part.ensures
+    filled start.args.s.now start.args.at start.requires refl c.before.put_part.ensures
 
 pub image_at_spec : {M : Type 1} → statement M
 image_at_spec = tie.close (tie.spec (λ c. search rules) (λ c κs. search rules) returns)

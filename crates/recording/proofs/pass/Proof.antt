@@ -28,25 +28,25 @@ seen_inside l at e f g =
     let x = entered_by l at e f in
     omega (arith, x.inside, x.size, g, ap size_by e)
 
-returns : tie.Need-returns
+returns : tie.Need-returns-in-Ends
 returns c =
-    let a = c.before.before.before.before.args in
-    let look = c.before.before.look in
+    let a = c.before.before.before.args in
+    let look = c.before.look-what in
     passed_is a.s.now a.at look.result a.at look.ensures
-    (sym (add-zero a.at) ∙ ap (λ (v : Seen). a.at + size_by v) (sym c.enum_told.given.1))
+    (sym (add-zero a.at) ∙ ap (λ (v : Seen). a.at + size_by v) (sym c.in-Ends.is))
 
-add-t5 : tie.Need-overflow-add-t5
+add-t5 : tie.Need-overflow_add-result
 add-t5 c =
     let a = c.before.before.before.before.args in
-    let look = c.before.before.look in
+    let look = c.before.before.look-what in
     let n =
-    seen_inside a.s.now a.at look.ensures (λ why e. miss (0 ∷ 1 ∷ 2 ∷ 3 ∷ 4 ∷ []) 5 tt (rw e at c.before.match.keys2)) c.size.ensures in
+    seen_inside a.s.now a.at look.ensures (λ why e. miss (0 ∷ 1 ∷ 2 ∷ 3 ∷ 4 ∷ []) 5 tt (rw e at c.before.in_default.in_default-own.keys2)) c.size.ensures in
     search rules
 
-returns-2 : tie.Need-returns-2
+returns-2 : tie.Need-returns
 returns-2 c =
     let a = c.before.before.before.before.args in
-    let look = c.before.before.look in
+    let look = c.before.before.look-what in
     passed_is a.s.now a.at look.result (a.at + c.size.result) look.ensures (ap (λ (k : ℕ). a.at + k) c.size.ensures)
 
 pub pass_spec : {M : Type 1} → statement M

@@ -12,7 +12,7 @@ returns : tie.Need-returns
 unfolding replay_of
 returns c =
     let l = c.before.before.before.args.s.now in
-    c.play-from.ensures ∙ ap (λ (g : Stage). continued (standing g 0 0) l) c.before.at-power-on.ensures ∙ from_start at_power_on l
+    c.play_from.ensures ∙ ap (λ (g : Stage). continued (standing g 0 0) l) c.before.at_power_on.ensures ∙ from_start at_power_on l
 
 pub replay_spec : {M : Type 1} → statement M
 replay_spec = tie.close (tie.spec (λ c κs. search rules) (λ c κs. search rules) returns)

@@ -25,9 +25,9 @@ step_is g x w n d e f h =
 returns : tie.Need-returns
 returns c =
     let a = c.before.before.before.before.before.before.before.args in
-    step_is a.stage (found (drop a.at a.s.now)) c.before.before.before.before.before.look.result c.size.result
-    c.before.before.before.one.result c.before.before.before.before.before.look.ensures c.size.ensures
-    c.before.before.before.one.ensures
+    step_is a.stage (found (drop a.at a.s.now)) c.before.before.before.before.before.look-what.result c.size.result
+    c.before.before.before.one-done.result c.before.before.before.before.before.look-what.ensures c.size.ensures
+    c.before.before.before.one-done.ensures
 
 pub step_spec : {M : Type 1} → statement M
 step_spec =

@@ -19,29 +19,29 @@ put_both : (k : ℕ) (body d : List ℕ) {d' : List ℕ} {r : ℕ} → length bo
 put_both k body d {d'} {r} h x =
     put_then (put_one k 0 d (omega arith)) (subst (λ (l : List ℕ). Put l 1 (set d 0 k) d' r) (take-length body) x) (omega arith)
 
-returns : tie.Need-returns
+returns : tie.Need-returns-then-buffer-body
 returns c =
     let a = c.before.before.before.before.args in
-    replied_7 (a.kind ∷ a.body.now) a.buffer.now c.refuse.ensures refl (let h = c.before.if1.true in omega arith)
+    replied_7 (a.kind ∷ a.body.now) a.buffer.now c.refuse.ensures refl (let h = c.before.if-buffer-body.true in omega arith)
 
-put-part-requires : tie.Need-put-part-requires
+put-part-requires : tie.Need-put_part-length-requires
 put-part-requires c κs =
     let a = c.before.before.before.before.args in
     let x : 0 + length a.body.now ≤ length a.body.now = omega arith in
     let y : 1 + length a.body.now ≤ length (set a.buffer.now 0 a.kind) =
-    omega (arith, length-set a.buffer.now 0 a.kind, c.before.if1.false) in
+    omega (arith, length-set a.buffer.now 0 a.kind, c.before.if-buffer-body.false) in
     (x, y)
 
-same_length : tie.Need-same-length
+same_length : tie.Need-shape_of-buffer
 same_length c =
     let a = c.before.before.before.before.before.before.before.args in
-    c.before.before.put-part.auto.1.1.1.0 ∙ length-set a.buffer.now 0 a.kind
+    c.before.before.put_part-length.auto.buffer ∙ length-set a.buffer.now 0 a.kind
 
-returns-2 : tie.Need-returns-2
+returns-2 : tie.Need-returns
 returns-2 c =
     let a = c.before.before.before.before.before.before.before.args in
-    let h : length a.body.now < length a.buffer.now = c.before.before.before.before.if1.false in
-    replied_0 (a.kind ∷ a.body.now) a.buffer.now refl (omega arith) (put_both a.kind a.body.now a.buffer.now h c.before.before.put-part.ensures)
+    let h : length a.body.now < length a.buffer.now = c.before.before.before.before.if-buffer-body.false in
+    replied_0 (a.kind ∷ a.body.now) a.buffer.now refl (omega arith) (put_both a.kind a.body.now a.buffer.now h c.before.before.put_part-length.ensures)
 
 pub put_record_spec : {M : Type 1} → statement M
 put_record_spec =
