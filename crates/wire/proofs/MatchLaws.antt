@@ -29,7 +29,7 @@ pub record Case (A : Type 0) : Type 0 where
   pub arm : Arm
   pub gives : A
 
--- what `c.match.rest` says, of the keys of all arms, the last arm's first
+-- what `in_default-own.rest` says, of the keys of all arms, the last arm's first
 abbrev NoneOf : List (List ℕ) → ℕ → Type 0
 NoneOf [] n = Unit {0}
 NoneOf (ks ∷ kss) n = NoneOf kss n × (OneOf ks n → ⊥)
