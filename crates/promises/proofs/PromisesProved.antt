@@ -10,6 +10,10 @@ use Rattle.state.proofs.RecordProved.{records_in_numbers, accepted_stays}
 use Rattle.board.proofs.Demand1Proved.{demand_1}
 use Rattle.board.proofs.Demand2Proved.{demand_2}
 use Rattle.board.proofs.Demand3Proved.{demand_3}
+use Rattle.recording.proofs.RecordingsProved.{recordings_right}
+use Rattle.recording.proofs.ReplayProved.{replay_right}
+use Rattle.recording.proofs.AnsweredProved.{answered_right}
+use Rattle.recording.proofs.ShownProved.{shown}
 use Rattle.drive.proofs.StageProved.{stage_right}
 use Rattle.firmware.proofs.BorderProved.{border_right}
 use Rattle.line.proofs.LinesProved.{lines_in_numbers}
@@ -22,6 +26,10 @@ promises =
       demand_2 = demand_2;
       demand_3 = demand_3;
       wheel_speeds = stage_right;
+      recordings = recordings_right;
+      played_back = replay_right;
+      any_recording = answered_right;
+      shown_recordings = shown;
       flat_messages = fields_right;
       flags_as_numbers = border_right;
       data_needed = remaining_needed;

@@ -13,6 +13,10 @@ use Rattle.state.specs.Record.{RecordsInNumbers, AcceptedStays}
 use Rattle.board.specs.Demand1.{Demand1}
 use Rattle.board.specs.Demand2.{Demand2}
 use Rattle.board.specs.Demand3.{Demand3}
+use Rattle.recording.specs.Recordings.{RecordingsRight}
+use Rattle.recording.specs.Playback.{ReplayRight}
+use Rattle.recording.specs.Answered.{AnsweredRight}
+use Rattle.recording.specs.ShownRecordings.{Shown}
 use Rattle.drive.specs.Stage.{StageRight}
 use Rattle.firmware.specs.Border.{BorderRight}
 use Rattle.line.specs.Cases.{LinesInNumbers}
@@ -39,6 +43,18 @@ pub record Promises : Type 0 where
   -- on, on the spot and wheel by wheel are as ordered; where the motors are off, the wheels stand;
   -- an order that is not legal is refused.
   pub wheel_speeds : StageRight
+  -- ---- beside them: recordings
+
+  -- What the board was given can be kept as bytes. Reading what was written gives the same records
+  -- back, and writing what was read the same bytes; where a recording ends, and why, is told.
+  pub recordings : RecordingsRight
+  -- Played back, a recording leaves what the same calls made live leave: also in parts, and the
+  -- recording of any day from power-on ends where that day ended.
+  pub played_back : ReplayRight
+  -- Any bytes at all, taken for a recording, are answered, and a good state record stays good.
+  pub any_recording : AnsweredRight
+  -- Recordings written out in numbers, with what each ends in.
+  pub shown_recordings : Shown
   -- ---- beside them: programs in C and Rust
 
   -- A host in C can say every command that can be written, in plain numbers, and of no other number
