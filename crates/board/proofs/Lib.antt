@@ -10,3 +10,4 @@ pub mod SentLaws
 pub mod Demand1Proved
 pub mod Demand2Proved
 pub mod Demand3Proved
+pub mod AnyRoomLaws

@@ -24,7 +24,7 @@ use Rattle.recording.specs.declared.Stage.{Stage}
 use Rattle.recording.proofs.FoundLaws.{stands}
 use Rattle.recording.proofs.ParseLaws.{parse_part, parse_next}
 use Rattle.recording.proofs.RecordingsProved.{recordings_right}
-use Rattle.board.proofs.AnyRoomLaws.{byte-any, tick-keeps}
+use Rattle.board.proofs.AnyRoomLaws.{byte_any, tick_keeps}
 
 -- ---- lists of calls and of entries
 
@@ -127,8 +127,8 @@ any_buffer buffer buffer' n (serial b ∷ es) s image =
     ap (λ (k : ℕ). after (byte_of s b image k).state (calls_of buffer image es)) n ∙ any_buffer buffer buffer' n es (byte_of s b image (length buffer')).state image
 any_buffer buffer buffer' n (safety flags ∷ es) s image = any_buffer buffer buffer' n es _ image
 any_buffer buffer buffer' n (ticked ∷ es) s image =
-    ap (λ (u : State). after u (calls_of buffer image es)) (tick-keeps s image (length buffer)) ∙ any_buffer buffer buffer' n es s image
-    ∙ sym (ap (λ (u : State). after u (calls_of buffer' image es)) (tick-keeps s image (length buffer')))
+    ap (λ (u : State). after u (calls_of buffer image es)) (tick_keeps s image (length buffer)) ∙ any_buffer buffer buffer' n es s image
+    ∙ sym (ap (λ (u : State). after u (calls_of buffer' image es)) (tick_keeps s image (length buffer')))
 any_buffer buffer buffer' n (song_ended ∷ es) s image = any_buffer buffer buffer' n es _ image
 any_buffer buffer buffer' n (sensed next ∷ es) s image = any_buffer buffer buffer' n es s next
 
@@ -150,7 +150,7 @@ module _ (buffer image : List ℕ) where
       P x = x.outcome.state ≡ bytes_leave s (take x.read (b ∷ bs))
 
       same : (byte_of s b image (length buffer)).state ≡ u
-      same = byte-any image image (length buffer) room s b
+      same = byte_any image image (length buffer) room s b
 
       go : Fed s b bs image room → (feed u bs image room).outcome.state ≡ bytes_leave u (take (feed u bs image room).read bs) → P (feed s (b ∷ bs) image room)
       go (none e f r) i = subst P (sym f) refl
@@ -229,10 +229,10 @@ module _ (buffer : List ℕ) where
 
 -- a call by itself leaves what the call left
 call_leaves : (buffer : List ℕ) (s : State) (c : Call) → after s (call_alone buffer s c) ≡ (perform s c).outcome.state
-call_leaves buffer s (byte b image lent) = byte-any image image (length buffer) (length lent) s b
+call_leaves buffer s (byte b image lent) = byte_any image image (length buffer) (length lent) s b
 call_leaves buffer s (run bs image lent) = sym (run_leaves buffer image (length lent) bs s)
 call_leaves buffer s (report drop cliff charger) = refl
-call_leaves buffer s (tick image lent) = tick-keeps s image (length buffer) ∙ sym (tick-keeps s image (length lent))
+call_leaves buffer s (tick image lent) = tick_keeps s image (length buffer) ∙ sym (tick_keeps s image (length lent))
 call_leaves buffer s song_end = refl
 
 alone_leaves : (buffer : List ℕ) (cs : List Call) (s : State) → after s (alone buffer s cs) ≡ after s cs
