@@ -3,7 +3,7 @@
  * The archive is target/staticlib/libfirmware.a, made by `tools/archive`, for Linux on
  * x86-64; docs/FIRMWARE.md says how to build, what to call when, and what to do with each number.
  * The rules are docs/HOST.md's; what a call promises here is the contract that stands at its
- * function in crates/firmware/src/lib.rt, and is proved there. Not proved, and trusted: that this
+ * function in crates/firmware_c/src/lib.rt, and is proved there. Not proved, and trusted: that this
  * header says what that source says (bindings/test compares what can be compared), and what stands
  * under "Pointers".
  *
