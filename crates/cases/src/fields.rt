@@ -1,5 +1,5 @@
 // The words and numbers of a cell that says a call, or what comes back from one.
-use terminal::{bits, bytes_from, signed_from, which};
+use terminal::{Out, bits, bytes_from, signed_from, which};
 
 // The words, by their places among the names. Those before `wrote` take a number.
 const READ: usize = 0;
@@ -110,13 +110,14 @@ fn with_word(fields: Fields, word: usize, next: usize) -> Fields {
 
 // A number with a sign, as its sixteen bits.
 fn with_number(
+    out: &Out,
     fields: Fields,
     word: usize,
     text: &[u8],
     from: usize,
     line_number: usize,
 ) -> Fields {
-    let read = signed_from(text, from, line_number, 32767);
+    let read = signed_from(out, text, from, line_number, 32767);
     let n = bits(read.value);
     let mut set = fields;
     set.next = read.next;
@@ -133,8 +134,8 @@ fn with_number(
 }
 
 // Bytes, up to the cell's end.
-fn with_bytes(fields: Fields, text: &[u8], from: usize, line_number: usize) -> Fields {
-    let read = bytes_from(text, from, line_number);
+fn with_bytes(out: &Out, fields: Fields, text: &[u8], from: usize, line_number: usize) -> Fields {
+    let read = bytes_from(out, text, from, line_number);
     let bytes = read.values;
     let mut set = fields;
     set.bytes = bytes;
@@ -145,7 +146,7 @@ fn with_bytes(fields: Fields, text: &[u8], from: usize, line_number: usize) -> F
 }
 
 // The next word of the cell; at its end there are no bytes.
-fn step(fields: Fields, text: &[u8], line_number: usize) -> Fields {
+fn step(out: &Out, fields: Fields, text: &[u8], line_number: usize) -> Fields {
     let word = line::next_word(text, fields.next);
     let start = word.start;
     let end = word.end;
@@ -154,25 +155,25 @@ fn step(fields: Fields, text: &[u8], line_number: usize) -> Fields {
         b"read right left room wrote capped drop cliff charger byte tick song-end report",
     );
     if name < WROTE {
-        return with_number(fields, name, text, end, line_number);
+        return with_number(out, fields, name, text, end, line_number);
     }
     if name < NUMBER {
         return with_word(fields, name, end);
     }
     if fields.lists || start == end {
-        return with_bytes(fields, text, start, line_number);
+        return with_bytes(out, fields, text, start, line_number);
     }
-    with_number(fields, NUMBER, text, start, line_number)
+    with_number(out, fields, NUMBER, text, start, line_number)
 }
 
 // A cell from a place on: numbers are bytes from the first on, or from `wrote` on.
-pub fn fields_from(text: &[u8], from: usize, lists: bool, line_number: usize) -> Fields {
+pub fn fields_from(out: &Out, text: &[u8], from: usize, lists: bool, line_number: usize) -> Fields {
     let mut fields = none();
     fields.next = from;
     fields.lists = lists;
     let mut turns = text.len();
     while turns > 0 && fields.more {
-        fields = step(fields, text, line_number);
+        fields = step(out, fields, text, line_number);
         turns -= 1;
     }
     fields

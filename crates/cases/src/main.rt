@@ -23,36 +23,36 @@ mod start;
 
 use row::Row;
 use session::Session;
-use terminal::{say, say_form, within};
+use terminal::{Out, say, say_form, within};
 
 // The most bytes of a line that are read.
 const LONGEST: usize = 1024;
 
 // What a line has that differs from what it expects.
-fn differences(session: Session, row: Row, kind: usize) -> usize {
+fn differences(out: &Out, session: Session, row: Row, kind: usize) -> usize {
     match kind {
-        row::RECORD => cases::named(row),
-        row::FRAME => cases::frame(session, row),
+        row::RECORD => cases::named(out, row),
+        row::FRAME => cases::frame(out, session, row),
         row::CASE => {
             let call = row.call;
-            cases::case(row, call)
+            cases::case(out, row, call)
         }
-        row::HELD => cases::held(row),
-        row::BAD => cases::bad(row),
-        row::WRITE => cases::write(row),
-        _ => cases::speeds(row),
+        row::HELD => cases::held(out, row),
+        row::BAD => cases::bad(out, row),
+        row::WRITE => cases::write(out, row),
+        _ => cases::speeds(out, row),
     }
 }
 
 // A line that is compared; one that cannot be read counts as one that differs.
-fn compare(session: Session, kind: usize, text: &[u8], from: usize) -> Session {
-    let row = row::row_from(session, kind, text, from);
+fn compare(out: &Out, session: Session, kind: usize, text: &[u8], from: usize) -> Session {
+    let row = row::row_from(out, session, kind, text, from);
     if !row.ok {
         return session::counted(session, 1);
     }
-    say(text);
-    let differs = differences(session, row, kind);
-    end_row(differs);
+    say(out, text);
+    let differs = differences(out, session, row, kind);
+    end_row(out, differs);
     let next = session::counted(session, differs);
     let after = row.after;
     let then = session::with_state(next, session::THEN, after);
@@ -63,20 +63,20 @@ fn compare(session: Session, kind: usize, text: &[u8], from: usize) -> Session {
     session::with_name(then, text, from, before)
 }
 
-fn end_row(differs: usize) {
+fn end_row(out: &Out, differs: usize) {
     let mark = cases::differ(differs, 0);
-    say_form(b"[0 |  DIFFERS]\n", [mark, 0, 0, 0, 0, 0, 0, 0]);
+    say_form(out, b"[0 |  DIFFERS]\n", [mark, 0, 0, 0, 0, 0, 0, 0]);
 }
 
 // A heading, or an empty line.
-fn heading(session: Session, text: &[u8]) -> Session {
-    say(text);
-    end_row(0);
+fn heading(out: &Out, session: Session, text: &[u8]) -> Session {
+    say(out, text);
+    end_row(out, 0);
     session
 }
 
 // A line by its first word.
-fn take_line(session: Session, text: &[u8]) -> Session {
+fn take_line(out: &Out, session: Session, text: &[u8]) -> Session {
     let word = line::next_word(text, 0);
     let start = word.start;
     let end = word.end;
@@ -86,36 +86,44 @@ fn take_line(session: Session, text: &[u8]) -> Session {
     );
     match kind {
         row::REMARK => session,
-        row::HEADING => heading(session, text),
-        row::RECORD..=row::SPEEDS => compare(session, kind, text, end),
-        _ => other(session, text, end),
+        row::HEADING => heading(out, session, text),
+        row::RECORD..=row::SPEEDS => compare(out, session, kind, text, end),
+        _ => other(out, session, text, end),
     }
 }
 
 // An empty line is written, and any other word is told.
-fn other(session: Session, text: &[u8], end: usize) -> Session {
+fn other(out: &Out, session: Session, text: &[u8], end: usize) -> Session {
     if end == 0 {
-        return heading(session, text);
+        return heading(out, session, text);
     }
-    session::faulty(session, 0, session::NO_KIND)
+    session::faulty(out, session, 0, session::NO_KIND)
 }
 
-fn read_line(session: Session, text: &[u8], size: usize, cut: bool, line_number: usize) -> Session {
+fn read_line(
+    out: &Out,
+    session: Session,
+    text: &[u8],
+    size: usize,
+    cut: bool,
+    line_number: usize,
+) -> Session {
     let mut next = session;
     next.line_number = line_number;
     if cut {
-        return session::faulty(next, LONGEST, session::TOO_LONG);
+        return session::faulty(out, next, LONGEST, session::TOO_LONG);
     }
     let n = within(size, text);
-    take_line(next, &text[0..n])
+    take_line(out, next, &text[0..n])
 }
 
 // The last line: how many were compared, and how many differ.
-fn finish(session: Session, came: u8) {
+fn finish(out: &Out, session: Session, came: u8) {
     if came == terminal::FAILED {
-        session::say_fault(session.line_number, 0, session::NO_INPUT);
+        session::say_fault(out, session.line_number, 0, session::NO_INPUT);
     }
     say_form(
+        out,
         b"%0 lines compared, %1 differ\n",
         [session.lines, session.differ, 0, 0, 0, 0, 0, 0],
     );
@@ -124,6 +132,7 @@ fn finish(session: Session, came: u8) {
 // A proved loop has to end, and nothing says that the input does: the turns count down from a
 // number that no run uses up.
 fn main(rt: HostRuntime) {
+    let out = Out::new();
     let mut kept = [0u8; LONGEST];
     let text: &mut [u8] = &mut kept;
     let mut session = session::opened();
@@ -133,10 +142,10 @@ fn main(rt: HostRuntime) {
         let got = terminal::next_line(input, text);
         input = got.input;
         if got.came != terminal::LINE {
-            finish(session, got.came);
+            finish(&out, session, got.came);
             break;
         }
-        session = read_line(session, text, got.size, got.cut, input.line_number);
+        session = read_line(&out, session, text, got.size, got.cut, input.line_number);
         turns -= 1;
     }
 }

@@ -7,7 +7,7 @@ use crate::start::start_from;
 use crate::{fields, session};
 use command::Message;
 use state::State;
-use terminal::{plus, within};
+use terminal::{Out, plus, within};
 
 // The kinds of line, by their places among the names.
 pub const REMARK: usize = 0;
@@ -84,12 +84,12 @@ fn bar(text: &[u8], from: usize) -> usize
 }
 
 // A record; behind its name, where it gets one.
-fn with_record(session: Session, row: Row, letter: u8, text: &[u8], from: usize) -> Row {
+fn with_record(out: &Out, session: Session, row: Row, letter: u8, text: &[u8], from: usize) -> Row {
     let name = line::next_word(text, from);
     let place = if letter == b'N' { name.end } else { from };
     let before = row.before;
     let known = session::with_state(session, session::BEFORE, before);
-    let begun = start_from(known, text, place);
+    let begun = start_from(out, known, text, place);
     let state = begun.state;
     let mut next = row;
     next.ok = begun.ok;
@@ -101,9 +101,16 @@ fn with_record(session: Session, row: Row, letter: u8, text: &[u8], from: usize)
 }
 
 // A call or bytes, and what comes back.
-fn with_fields(row: Row, letter: u8, text: &[u8], from: usize, line_number: usize) -> Row {
+fn with_fields(
+    out: &Out,
+    row: Row,
+    letter: u8,
+    text: &[u8],
+    from: usize,
+    line_number: usize,
+) -> Row {
     let lists = letter == b'C' || letter == b'B';
-    let fields = fields_from(text, from, lists, line_number);
+    let fields = fields_from(out, text, from, lists, line_number);
     let mut next = row;
     next.ok = fields.ok;
     match letter {
@@ -115,42 +122,42 @@ fn with_fields(row: Row, letter: u8, text: &[u8], from: usize, line_number: usiz
 }
 
 // A command by its name and its values.
-fn with_command(row: Row, text: &[u8], from: usize, line_number: usize) -> Row {
+fn with_command(out: &Out, row: Row, text: &[u8], from: usize, line_number: usize) -> Row {
     let word = line::next_word(text, from);
     let start = word.start;
     let end = word.end;
     let op = words::opcode_named(&text[start..end]);
     let mut next = row;
     if op == 0 {
-        say_fault(line_number, start, session::NO_COMMAND);
+        say_fault(out, line_number, start, session::NO_COMMAND);
         next.ok = false;
         return next;
     }
-    let typed = words::message_from(op, text, end, line_number);
+    let typed = words::message_from(out, op, text, end, line_number);
     let message = typed.message;
     next.message = message;
     next.ok = typed.ok;
     next
 }
 
-fn with_cell(session: Session, row: Row, letter: u8, text: &[u8], from: usize) -> Row {
+fn with_cell(out: &Out, session: Session, row: Row, letter: u8, text: &[u8], from: usize) -> Row {
     match letter {
-        b'N' | b'S' | b'A' => with_record(session, row, letter, text, from),
-        b'M' => with_command(row, text, from, session.line_number),
+        b'N' | b'S' | b'A' => with_record(out, session, row, letter, text, from),
+        b'M' => with_command(out, row, text, from, session.line_number),
         b' ' => row,
-        _ => with_fields(row, letter, text, from, session.line_number),
+        _ => with_fields(out, row, letter, text, from, session.line_number),
     }
 }
 
 // The cells from a place on, up to the first that is bad.
-pub fn row_from(session: Session, kind: usize, text: &[u8], from: usize) -> Row {
+pub fn row_from(out: &Out, session: Session, kind: usize, text: &[u8], from: usize) -> Row {
     let mut row = empty();
     let mut at = from;
     let mut i = 0;
     while i < CELLS && row.ok {
         let end = bar(text, at);
         let letter = letter_of(kind, i);
-        row = with_cell(session, row, letter, &text[0..end], at);
+        row = with_cell(out, session, row, letter, &text[0..end], at);
         at = plus(end, 1);
         i += 1;
     }

@@ -1,7 +1,7 @@
 // What lines of the input set for those after them, the named records; how many lines were
 // compared; and what is said of a line that cannot be read.
 use state::State;
-use terminal::{plus, say_form, which, within};
+use terminal::{Out, plus, say_form, which, within};
 
 // The most records by name. Three are there from the start: `then`, which the last line expects
 // after its call; `before`, from which the line's own call is given; and `off`, as at power-on.
@@ -44,8 +44,9 @@ pub const TOO_LONG: usize = 4;
 pub const NO_INPUT: usize = 5;
 
 // Places are counted from 1.
-pub fn say_fault(line_number: usize, place: usize, fault: usize) {
+pub fn say_fault(out: &Out, line_number: usize, place: usize, fault: usize) {
     say_form(
+        out,
         b"line %0: place %1: [2 no record has this name|a byte is at most 255|\
         this is no command|this is no kind of line|\
         the line is longer than 1024 bytes|after this line the input could not be read]\n",
@@ -54,8 +55,8 @@ pub fn say_fault(line_number: usize, place: usize, fault: usize) {
 }
 
 // A line that cannot be read.
-pub fn faulty(session: Session, place: usize, fault: usize) -> Session {
-    say_fault(session.line_number, place, fault);
+pub fn faulty(out: &Out, session: Session, place: usize, fault: usize) -> Session {
+    say_fault(out, session.line_number, place, fault);
     counted(session, 1)
 }
 

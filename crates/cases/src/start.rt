@@ -5,6 +5,7 @@ use crate::session;
 use crate::session::{Session, say_fault};
 use line::Number;
 use state::State;
+use terminal::Out;
 
 // A record, the place that is read next, and whether there is more; not ok where a word was bad,
 // and then it has been said.
@@ -26,9 +27,9 @@ fn so_far(state: State, next: usize, more: bool, ok: bool) -> Begun {
 }
 
 // A number is a byte for the board.
-fn feed(state: State, n: usize, end: usize, line_number: usize) -> Begun {
+fn feed(out: &Out, state: State, n: usize, end: usize, line_number: usize) -> Begun {
     if n > 255 {
-        say_fault(line_number, end, session::NO_BYTE);
+        say_fault(out, line_number, end, session::NO_BYTE);
         return so_far(state, end, false, false);
     }
     let given = give_byte(state, n as u8);
@@ -37,39 +38,39 @@ fn feed(state: State, n: usize, end: usize, line_number: usize) -> Begun {
 }
 
 // A part of the record, and its numbers.
-fn put(state: State, text: &[u8], from: usize, line_number: usize) -> Begun {
-    let made = words::set_part(state, text, from, line_number);
+fn put(out: &Out, state: State, text: &[u8], from: usize, line_number: usize) -> Begun {
+    let made = words::set_part(out, state, text, from, line_number);
     let after = made.state;
     so_far(after, made.next, made.ok, made.ok)
 }
 
 // The next word of the cell.
-fn step(now: Begun, text: &[u8], line_number: usize) -> Begun {
+fn step(out: &Out, now: Begun, text: &[u8], line_number: usize) -> Begun {
     let word = line::next_word(text, now.next);
     let start = word.start;
     let end = word.end;
     let state = now.state;
     let value = line::unsigned(&text[start..end]);
     if let Number::Plain(n) = value {
-        return feed(state, n, end, line_number);
+        return feed(out, state, n, end, line_number);
     }
     if start < end {
-        return put(state, text, start, line_number);
+        return put(out, state, text, start, line_number);
     }
     so_far(state, end, false, true)
 }
 
-fn steps(first: Begun, text: &[u8], line_number: usize) -> Begun {
+fn steps(out: &Out, first: Begun, text: &[u8], line_number: usize) -> Begun {
     let mut now = first;
     let mut turns = text.len();
     while turns > 0 && now.more {
-        now = step(now, text, line_number);
+        now = step(out, now, text, line_number);
         turns -= 1;
     }
     now
 }
 
-pub fn start_from(session: Session, text: &[u8], from: usize) -> Begun {
+pub fn start_from(out: &Out, session: Session, text: &[u8], from: usize) -> Begun {
     let word = line::next_word(text, from);
     let start = word.start;
     let end = word.end;
@@ -77,8 +78,13 @@ pub fn start_from(session: Session, text: &[u8], from: usize) -> Begun {
     let k = session::index_of(names, &text[start..end]);
     let state = session::state_at(session, k);
     if k < names.count && k < session::RECORDS {
-        return steps(so_far(state, end, true, true), text, session.line_number);
+        return steps(
+            out,
+            so_far(state, end, true, true),
+            text,
+            session.line_number,
+        );
     }
-    say_fault(session.line_number, start, session::NO_RECORD);
+    say_fault(out, session.line_number, start, session::NO_RECORD);
     so_far(state, end, false, false)
 }

@@ -1,8 +1,9 @@
 // What the console's words are.
-use terminal::say;
+use terminal::{Out, say};
 
-fn say_words() {
+fn say_words(out: &Out) {
     say(
+        out,
         b"A command by name is written as a host would write it:\n\
         \x20 start, control, safe, full, power, spot, cover, dock, demo -1 (-1 to 9)\n\
         \x20 drive 200 500 (velocity, radius), direct 500 -500 (right, left)\n\
@@ -19,8 +20,9 @@ fn say_words() {
     );
 }
 
-fn say_settings() {
+fn say_settings(out: &Out) {
     say(
+        out,
         b"The record, and what is lent:\n\
         \x20 state                       the whole record\n\
         \x20 set mode 2 order 1 ..       parts of the record by name, so bad records too:\n\
@@ -38,10 +40,11 @@ fn say_settings() {
     );
 }
 
-pub fn say_help() {
-    say_words();
-    say_settings();
+pub fn say_help(out: &Out) {
+    say_words(out);
+    say_settings(out);
     say(
+        out,
         b"In Safe, drop and charger stop the base, and so does a cliff that it moves into: a drive\n\
         forwards, or backwards on a radius strictly between -165 and 165; a direct with a wheel\n\
         above 0, or with neither, the two different, and 129 times their sum below 165 times their\n\

@@ -18,7 +18,7 @@ use session::Session;
 use std::env::FillError;
 use std::io::{IsTerminal, Stdin};
 use std::rt::Env;
-use terminal::{Line, say_shown, within};
+use terminal::{Line, Out, say_shown, within};
 use texts::{ARGUMENT, LONG, NO_INPUT, PROMPT, UNREADABLE, WELCOME, tell_one, tell_plain};
 
 // The most bytes of a line that are read.
@@ -45,55 +45,55 @@ fn words_end(text: &[u8]) -> usize {
 }
 
 // A line without its comment and the blanks at its end.
-fn take_text(session: Session, text: &[u8]) -> Session {
+fn take_text(out: &Out, session: Session, text: &[u8]) -> Session {
     let end = within(words_end(text), text);
-    perform::read_line(session, &text[0..end])
+    perform::read_line(out, session, &text[0..end])
 }
 
-fn take_line(session: Session, text: &[u8], next: Line) -> Session {
+fn take_line(out: &Out, session: Session, text: &[u8], next: Line) -> Session {
     let mut now = session;
     let input = next.input;
     now.line_number = input.line_number;
     now.bad = false;
     if next.cut {
-        tell_one(LONG, now.line_number);
+        tell_one(out, LONG, now.line_number);
         return now;
     }
     let n = within(next.size, text);
-    take_text(now, &text[0..n])
+    take_text(out, now, &text[0..n])
 }
 
 // Why there is no further line, where a person would not know it.
-fn finish(came: u8, line_number: usize) {
+fn finish(out: &Out, came: u8, line_number: usize) {
     if came == terminal::FAILED {
-        tell_plain(UNREADABLE);
+        tell_plain(out, UNREADABLE);
     } else if line_number == 0 {
-        tell_plain(NO_INPUT);
+        tell_plain(out, NO_INPUT);
     }
 }
 
-fn prompt(asks: bool) {
+fn prompt(out: &Out, asks: bool) {
     if asks {
-        tell_plain(PROMPT);
+        tell_plain(out, PROMPT);
     }
 }
 
 // A proved loop has to end, and nothing says that the input does: the turns count down from a
 // number that no run uses up.
-fn read_all(session: Session, stdin: Stdin, asks: bool) {
+fn read_all(out: &Out, session: Session, stdin: Stdin, asks: bool) {
     let mut space = [0u8; LONGEST];
     let text: &mut [u8] = &mut space;
     let mut now = session;
     let mut input = terminal::open(stdin);
     let mut turns = u64::MAX;
     while turns > 0 {
-        prompt(asks);
+        prompt(out, asks);
         let next = terminal::next_line(input, text);
         if next.came != terminal::LINE {
-            finish(next.came, now.line_number);
+            finish(out, next.came, now.line_number);
             return;
         }
-        now = take_line(now, text, next);
+        now = take_line(out, now, text, next);
         if now.over {
             return;
         }
@@ -103,28 +103,29 @@ fn read_all(session: Session, stdin: Stdin, asks: bool) {
 }
 
 // The console takes no argument; one is told, and what it takes instead.
-fn say_argument(word: &[u8]) {
+fn say_argument(out: &Out, word: &[u8]) {
     if wire::same(word, b"--help") {
-        help::say_help();
+        help::say_help(out);
         return;
     }
-    say_shown(word);
-    tell_plain(ARGUMENT);
+    say_shown(out, word);
+    tell_plain(out, ARGUMENT);
 }
 
-fn begin(stdin: Stdin) {
+fn begin(out: &Out, stdin: Stdin) {
     let asks = stdin.is_terminal();
     if asks {
-        tell_plain(WELCOME);
+        tell_plain(out, WELCOME);
     }
-    read_all(session::opened(), stdin, asks);
+    read_all(out, session::opened(), stdin, asks);
 }
 
 fn main(rt: HostRuntime) {
+    let out = Out::new();
     let mut word = [0u8; 64];
     match rt.arg(1, &mut word) {
-        Ok(n) => say_argument(&word[..n]),
-        Err(FillError::TooLong) => say_argument(b""),
-        Err(FillError::NotPresent) => begin(rt.stdin()),
+        Ok(n) => say_argument(&out, &word[..n]),
+        Err(FillError::TooLong) => say_argument(&out, b""),
+        Err(FillError::NotPresent) => begin(&out, rt.stdin()),
     }
 }

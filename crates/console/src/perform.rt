@@ -7,27 +7,34 @@ use crate::texts::{
 };
 use crate::{calls, help, record, send, stop};
 use line::Number;
-use terminal::{bytes_from, say_shown, say_wanted, say_where, within};
+use terminal::{Out, bytes_from, say_shown, say_wanted, say_where, within};
 
 const MOST_ROOM: usize = 1024;
 
 const MOST_TURNS: usize = 1000;
 
 // A word that is bad, by the place where it stands.
-fn say_bad(session: Session, text: &[u8], start: usize, end: usize, why: usize) -> Session {
-    say_where(session.line_number, start);
+fn say_bad(
+    out: &Out,
+    session: Session,
+    text: &[u8],
+    start: usize,
+    end: usize,
+    why: usize,
+) -> Session {
+    say_where(out, session.line_number, start);
     let to = within(end, text);
     if start <= to {
-        say_shown(&text[start..to]);
+        say_shown(out, &text[start..to]);
     }
-    tell_plain(why);
+    tell_plain(out, why);
     failed(session)
 }
 
 // What a word wants, which it has not.
-fn say_wants(session: Session, place: usize, what: usize) -> Session {
-    say_where(session.line_number, place);
-    tell_plain(what);
+fn say_wants(out: &Out, session: Session, place: usize, what: usize) -> Session {
+    say_where(out, session.line_number, place);
+    tell_plain(out, what);
     failed(session)
 }
 
@@ -51,7 +58,7 @@ fn read_flag(flags: Flags, word: &[u8]) -> Flags {
     next
 }
 
-fn report(session: Session, text: &[u8], from: usize) -> Session {
+fn report(out: &Out, session: Session, text: &[u8], from: usize) -> Session {
     let mut flags = Flags {
         drop: false,
         cliff: false,
@@ -69,12 +76,12 @@ fn report(session: Session, text: &[u8], from: usize) -> Session {
         }
         flags = read_flag(flags, &text[start..end]);
         if !flags.ok {
-            return say_bad(session, text, start, end, NO_FLAG);
+            return say_bad(out, session, text, start, end, NO_FLAG);
         }
         at = end;
         turns -= 1;
     }
-    calls::give_report(session, flags.drop, flags.cliff, flags.charger)
+    calls::give_report(out, session, flags.drop, flags.cliff, flags.charger)
 }
 
 // The number that a word says, and the place after it; above 65535 where it says none.
@@ -101,15 +108,15 @@ fn count_from(text: &[u8], from: usize) -> Count {
     }
 }
 
-fn set_room(session: Session, text: &[u8], from: usize) -> Session {
+fn set_room(out: &Out, session: Session, text: &[u8], from: usize) -> Session {
     let room = count_from(text, from);
     if room.value > MOST_ROOM {
-        return say_wants(session, room.start, NO_ROOM);
+        return say_wants(out, session, room.start, NO_ROOM);
     }
-    if !terminal::ends(text, room.next, session.line_number) {
+    if !terminal::ends(out, text, room.next, session.line_number) {
         return failed(session);
     }
-    tell_one(ROOM, room.value);
+    tell_one(out, ROOM, room.value);
     let mut next = session;
     next.room = room.value;
     next
@@ -125,78 +132,78 @@ fn first_forty(values: [u8; 512]) -> [u8; 40] {
     image
 }
 
-fn set_image(session: Session, text: &[u8], from: usize) -> Session {
-    let bytes = bytes_from(text, from, session.line_number);
+fn set_image(out: &Out, session: Session, text: &[u8], from: usize) -> Session {
+    let bytes = bytes_from(out, text, from, session.line_number);
     if !bytes.ok {
         return failed(session);
     }
     if bytes.count != 40 {
-        say_wanted(session.line_number, from, 40, bytes.count);
+        say_wanted(out, session.line_number, from, 40, bytes.count);
         return failed(session);
     }
     let values = bytes.values;
     let image = first_forty(values);
-    tell_plain(IMAGE);
+    tell_plain(out, IMAGE);
     let mut next = session;
     next.image = image;
     next
 }
 
 // Bytes, all frames of them, or in one run.
-fn give(session: Session, text: &[u8], from: usize, whole: bool) -> Session {
-    let bytes = bytes_from(text, from, session.line_number);
+fn give(out: &Out, session: Session, text: &[u8], from: usize, whole: bool) -> Session {
+    let bytes = bytes_from(out, text, from, session.line_number);
     if !bytes.ok {
         return failed(session);
     }
     let values = bytes.values;
     if whole {
-        return calls::give_run(session, values, bytes.count);
+        return calls::give_run(out, session, values, bytes.count);
     }
-    calls::give_bytes(session, values, bytes.count)
+    calls::give_bytes(out, session, values, bytes.count)
 }
 
-fn power_on(session: Session) -> Session {
+fn power_on(out: &Out, session: Session) -> Session {
     let state = state::power_on();
-    tell_plain(POWER_ON);
-    say_drive(state);
-    tell_plain(LINE_END);
+    tell_plain(out, POWER_ON);
+    say_drive(out, state);
+    tell_plain(out, LINE_END);
     with_state(session, state)
 }
 
 // Each is undone by saying it again.
-fn switch(session: Session, raw: bool) -> Session {
+fn switch(out: &Out, session: Session, raw: bool) -> Session {
     let mut next = session;
     if raw {
         next.raw = !session.raw;
-        tell_three(SWITCH, 1, one_if(next.raw), 0);
+        tell_three(out, SWITCH, 1, one_if(next.raw), 0);
     } else {
         next.verbose = !session.verbose;
-        tell_three(SWITCH, 0, one_if(next.verbose), 0);
+        tell_three(out, SWITCH, 0, one_if(next.verbose), 0);
     }
     next
 }
 
 // A word that stands alone on its line, by its place among the names below.
-fn alone(session: Session, kind: usize) -> Session {
+fn alone(out: &Out, session: Session, kind: usize) -> Session {
     let state = session.state;
     match kind {
-        0 => calls::give_tick(session),
-        1 => calls::give_song_end(session),
-        2 => power_on(session),
-        3 => stop::stop(session),
+        0 => calls::give_tick(out, session),
+        1 => calls::give_song_end(out, session),
+        2 => power_on(out, session),
+        3 => stop::stop(out, session),
         4 => {
-            record::say_state(state);
+            record::say_state(out, state);
             session
         }
         5 => {
-            record::say_accepts(state);
+            record::say_accepts(out, state);
             session
         }
         6 | 7 => {
-            help::say_help();
+            help::say_help(out);
             session
         }
-        8 | 9 => switch(session, kind == 9),
+        8 | 9 => switch(out, session, kind == 9),
         _ => {
             let mut next = session;
             next.over = true;
@@ -206,22 +213,36 @@ fn alone(session: Session, kind: usize) -> Session {
 }
 
 // A word that takes others after it, or a command's name.
-fn with_words(session: Session, text: &[u8], start: usize, end: usize, kind: usize) -> Session {
+fn with_words(
+    out: &Out,
+    session: Session,
+    text: &[u8],
+    start: usize,
+    end: usize,
+    kind: usize,
+) -> Session {
     match kind {
-        0 => give(session, text, end, false),
-        1 => give(session, text, end, true),
-        2 => report(session, text, end),
-        3 => set_room(session, text, end),
-        4 => set_image(session, text, end),
-        5 => record::set(session, text, end),
-        _ => say_bad(session, text, start, end, NO_WORD),
+        0 => give(out, session, text, end, false),
+        1 => give(out, session, text, end, true),
+        2 => report(out, session, text, end),
+        3 => set_room(out, session, text, end),
+        4 => set_image(out, session, text, end),
+        5 => record::set(out, session, text, end),
+        _ => say_bad(out, session, text, start, end, NO_WORD),
     }
 }
 
-fn by_word(session: Session, text: &[u8], word: &[u8], start: usize, end: usize) -> Session {
+fn by_word(
+    out: &Out,
+    session: Session,
+    text: &[u8],
+    word: &[u8],
+    start: usize,
+    end: usize,
+) -> Session {
     let op = words::opcode_named(word);
     if op != 0 {
-        return send::command(session, op, text, start, end);
+        return send::command(out, session, op, text, start, end);
     }
     let kind = terminal::which(
         word,
@@ -229,16 +250,16 @@ fn by_word(session: Session, text: &[u8], word: &[u8], start: usize, end: usize)
     );
     if kind > 10 {
         let taking = terminal::which(word, b"bytes run report room image set");
-        return with_words(session, text, start, end, taking);
+        return with_words(out, session, text, start, end, taking);
     }
-    if !terminal::ends(text, end, session.line_number) {
+    if !terminal::ends(out, text, end, session.line_number) {
         return failed(session);
     }
-    alone(session, kind)
+    alone(out, session, kind)
 }
 
 // A line that begins with a number is bytes, and any other goes by its first word.
-fn one_line(before: Session, text: &[u8], from: usize) -> Session {
+fn one_line(out: &Out, before: Session, text: &[u8], from: usize) -> Session {
     let word = line::next_word(text, from);
     let start = word.start;
     let end = word.end;
@@ -248,20 +269,20 @@ fn one_line(before: Session, text: &[u8], from: usize) -> Session {
     let session = with_typed(before, text, start);
     let value = line::signed(&text[start..end]);
     let Number::NotANumber = value else {
-        return give(session, text, start, false);
+        return give(out, session, text, start, false);
     };
-    by_word(session, text, &text[start..end], start, end)
+    by_word(out, session, text, &text[start..end], start, end)
 }
 
 // The line from a place on, some times; a bad one ends it.
-fn repeat_line(session: Session, text: &[u8], from: usize, times: usize) -> Session {
+fn repeat_line(out: &Out, session: Session, text: &[u8], from: usize, times: usize) -> Session {
     let mut now = session;
     now.repeating = true;
     now.same = 0;
     now.last = NONE;
     let mut turns = times;
     while turns > 0 {
-        now = one_line(now, text, from);
+        now = one_line(out, now, text, from);
         if now.bad || now.over {
             break;
         }
@@ -271,29 +292,29 @@ fn repeat_line(session: Session, text: &[u8], from: usize, times: usize) -> Sess
     now
 }
 
-fn repeat(session: Session, text: &[u8], place: usize, from: usize) -> Session {
+fn repeat(out: &Out, session: Session, text: &[u8], place: usize, from: usize) -> Session {
     let times = count_from(text, from);
     if times.value == 0 || times.value > MOST_TURNS {
-        return say_wants(session, place, NO_TIMES);
+        return say_wants(out, session, place, NO_TIMES);
     }
     let word = line::next_word(text, times.next);
     if word.start == word.end {
-        return say_wants(session, word.start, NO_TIMES);
+        return say_wants(out, session, word.start, NO_TIMES);
     }
-    let next = repeat_line(session, text, times.next, times.value);
+    let next = repeat_line(out, session, text, times.next, times.value);
     if next.same > 0 {
-        tell_one(AGAIN, next.same);
+        tell_one(out, AGAIN, next.same);
     }
     next
 }
 
 // A line; an empty one says nothing.
-pub fn read_line(session: Session, text: &[u8]) -> Session {
+pub fn read_line(out: &Out, session: Session, text: &[u8]) -> Session {
     let word = line::next_word(text, 0);
     let start = word.start;
     let end = word.end;
     if wire::same(&text[start..end], b"repeat") {
-        return repeat(session, text, start, end);
+        return repeat(out, session, text, start, end);
     }
-    one_line(session, text, 0)
+    one_line(out, session, text, 0)
 }

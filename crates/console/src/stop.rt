@@ -3,6 +3,7 @@ use crate::calls::take;
 use crate::session::{NONE, Session, with_state};
 use crate::show::{one_if, say_drive};
 use crate::texts::{AT_END, LINE_END, OPCODE, RANGE, STOP, tell_one, tell_plain, tell_three};
+use terminal::Out;
 
 // The least number that stops from every accepted record.
 const ENOUGH: usize = 511;
@@ -19,17 +20,17 @@ struct Stopping {
 }
 
 // What a range of bytes gave.
-fn say_range(first: usize, last: usize, number: u8) {
+fn say_range(out: &Out, first: usize, last: usize, number: u8) {
     if number == NONE {
         return;
     }
-    tell_three(RANGE, one_if(first < last), first, last);
-    words::say_meaning(number);
-    tell_plain(LINE_END);
+    tell_three(out, RANGE, one_if(first < last), first, last);
+    words::say_meaning(out, number);
+    tell_plain(out, LINE_END);
 }
 
 // A byte is read as an opcode where nothing is half read, and 8 says that it is not read.
-fn stop_byte(now: Stopping) -> Stopping {
+fn stop_byte(out: &Out, now: Stopping) -> Stopping {
     let session = now.session;
     let state = session.state;
     let partial = state.partial;
@@ -43,23 +44,23 @@ fn stop_byte(now: Stopping) -> Stopping {
         next.opcode = k;
     }
     if came.number != now.number {
-        say_range(now.since, now.given, now.number);
+        say_range(out, now.since, now.given, now.number);
         next.number = came.number;
         next.since = k;
     }
     next
 }
 
-fn say_stopped(stopping: Stopping) {
+fn say_stopped(out: &Out, stopping: Stopping) {
     let session = stopping.session;
     let state = session.state;
     let partial = state.partial;
-    tell_three(OPCODE, one_if(stopping.opcode > 0), stopping.opcode, 0);
-    say_drive(state);
-    tell_one(AT_END, one_if(partial.count > 0));
+    tell_three(out, OPCODE, one_if(stopping.opcode > 0), stopping.opcode, 0);
+    say_drive(out, state);
+    tell_one(out, AT_END, one_if(partial.count > 0));
 }
 
-pub fn stop(session: Session) -> Session {
+pub fn stop(out: &Out, session: Session) -> Session {
     let mut now = Stopping {
         session,
         given: 0,
@@ -67,13 +68,13 @@ pub fn stop(session: Session) -> Session {
         since: 1,
         opcode: 0,
     };
-    tell_plain(STOP);
+    tell_plain(out, STOP);
     let mut turns = ENOUGH;
     while turns > 0 {
-        now = stop_byte(now);
+        now = stop_byte(out, now);
         turns -= 1;
     }
-    say_range(now.since, now.given, now.number);
-    say_stopped(now);
+    say_range(out, now.since, now.given, now.number);
+    say_stopped(out, now);
     now.session
 }

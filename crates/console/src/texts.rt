@@ -1,5 +1,5 @@
 // What the console says, in one place, as forms (crates/terminal/src/form.rt), each behind an @.
-use terminal::say_entry;
+use terminal::{Out, say_entry};
 
 pub const JOIN: usize = 0;
 
@@ -108,8 +108,9 @@ pub const ARGUMENT: usize = 51;
 pub const WELCOME: usize = 52;
 
 // The columns that a text took, with its values.
-pub fn tell(text: usize, values: [usize; 8]) -> usize {
+pub fn tell(out: &Out, text: usize, values: [usize; 8]) -> usize {
     say_entry(
+        out,
         b"@, \
         @,\n    \
         @; \
@@ -169,14 +170,14 @@ pub fn tell(text: usize, values: [usize; 8]) -> usize {
     )
 }
 
-pub fn tell_plain(text: usize) -> usize {
-    tell(text, [0usize; 8])
+pub fn tell_plain(out: &Out, text: usize) -> usize {
+    tell(out, text, [0usize; 8])
 }
 
-pub fn tell_one(text: usize, a: usize) -> usize {
-    tell(text, [a, 0, 0, 0, 0, 0, 0, 0])
+pub fn tell_one(out: &Out, text: usize, a: usize) -> usize {
+    tell(out, text, [a, 0, 0, 0, 0, 0, 0, 0])
 }
 
-pub fn tell_three(text: usize, a: usize, b: usize, c: usize) -> usize {
-    tell(text, [a, b, c, 0, 0, 0, 0, 0])
+pub fn tell_three(out: &Out, text: usize, a: usize, b: usize, c: usize) -> usize {
+    tell(out, text, [a, b, c, 0, 0, 0, 0, 0])
 }

@@ -2,7 +2,7 @@
 use crate::page;
 use crate::page::{Page, bad, find, put};
 use board::{Answer, Ran};
-use terminal::{bytes_from, ends, plus, which, wide, within};
+use terminal::{Out, bytes_from, ends, plus, which, wide, within};
 
 // The acts that are no commands, by their places among the names. Those before power-on take bytes.
 const BYTES: usize = 0;
@@ -65,24 +65,24 @@ fn called(page: Page, act: usize, bytes: &[u8]) -> Page {
 
 // One run over these bytes, which are kept behind those that were given before them. It is to read
 // all of them, save that a bad record reads none.
-fn give(page: Page, bytes: &[u8]) -> Page {
+fn give(out: &Out, page: Page, bytes: &[u8]) -> Page {
     let mut given = page.given;
     if !put(bytes, &mut given, page.end) {
-        return bad(page, 0, page::MANY_GIVEN);
+        return bad(out, page, 0, page::MANY_GIVEN);
     }
     let mut kept = page;
     kept.given = given;
     kept.end = plus(page.end, bytes.len());
     let next = called(kept, BYTES, bytes);
     if next.number != 8 && next.read != bytes.len() {
-        return bad(next, 0, page::ENDS_BEFORE);
+        return bad(out, next, 0, page::ENDS_BEFORE);
     }
     next
 }
 
 // The last command that had a name, written by the host-side writer and given to the board. What
 // the writer refuses is not sent, and the number is the writer's.
-fn write(page: Page) -> Page {
+fn write(out: &Out, page: Page) -> Page {
     let mut buffer = [0u8; 1024];
     let lent: &mut [u8] = &mut buffer;
     let room = within(page.room, lent);
@@ -96,12 +96,12 @@ fn write(page: Page) -> Page {
     }
     let frame = &lent[..];
     let n = within(sent.length, frame);
-    give(next, &frame[0..n])
+    give(out, next, &frame[0..n])
 }
 
 // The command of an opcode, with its values from a place on.
-fn send(page: Page, op: u8, text: &[u8], from: usize) -> Page {
-    let typed = words::message_from(op, text, from, page.line_number);
+fn send(out: &Out, page: Page, op: u8, text: &[u8], from: usize) -> Page {
+    let typed = words::message_from(out, op, text, from, page.line_number);
     if !typed.ok {
         return page;
     }
@@ -112,7 +112,7 @@ fn send(page: Page, op: u8, text: &[u8], from: usize) -> Page {
     next.frame = frame;
     next.opcode = op;
     next.named = true;
-    write(next)
+    write(out, next)
 }
 
 // A fresh start, with room for any answer.
@@ -144,30 +144,30 @@ fn set_room(page: Page, room: u8) -> Page {
 }
 
 // The acts that take one number or two.
-fn with_numbers(page: Page, act: usize, first: u8, second: u8) -> Page {
+fn with_numbers(out: &Out, page: Page, act: usize, first: u8, second: u8) -> Page {
     match act {
         IMAGE => set_image(page, first, second),
         ROOM => set_room(page, first),
-        _ => send(page, first, b"", 0),
+        _ => send(out, page, first, b"", 0),
     }
 }
 
 // The acts that take numbers.
-fn with_bytes(page: Page, act: usize, text: &[u8], from: usize) -> Page {
-    let read = bytes_from(text, from, page.line_number);
+fn with_bytes(out: &Out, page: Page, act: usize, text: &[u8], from: usize) -> Page {
+    let read = bytes_from(out, text, from, page.line_number);
     let values = read.values;
     let first = values[0];
     if !read.ok {
         return page;
     }
     if act != BYTES {
-        return with_numbers(page, act, first, values[1]);
+        return with_numbers(out, page, act, first, values[1]);
     }
     let n = within(read.count, &values);
     let mut next = page;
     next.opcode = first;
     next.named = false;
-    give(next, &values[0..n])
+    give(out, next, &values[0..n])
 }
 
 // The acts that stand alone.
@@ -179,9 +179,9 @@ fn alone(page: Page, act: usize) -> Page {
 }
 
 // A part of the record, set by hand.
-fn set_part(page: Page, text: &[u8], from: usize) -> Page {
+fn set_part(out: &Out, page: Page, text: &[u8], from: usize) -> Page {
     let state = page.state;
-    let made = words::set_part(state, text, from, page.line_number);
+    let made = words::set_part(out, state, text, from, page.line_number);
     let left = made.state;
     let mut next = page;
     next.state = left;
@@ -189,50 +189,50 @@ fn set_part(page: Page, text: &[u8], from: usize) -> Page {
 }
 
 // An act that is no command.
-fn by_act(page: Page, act: usize, text: &[u8], from: usize, end: usize) -> Page {
+fn by_act(out: &Out, page: Page, act: usize, text: &[u8], from: usize, end: usize) -> Page {
     if act < POWER_ON {
-        return with_bytes(page, act, text, end);
+        return with_bytes(out, page, act, text, end);
     }
-    if act < ACTS && ends(text, end, page.line_number) {
+    if act < ACTS && ends(out, text, end, page.line_number) {
         return alone(page, act);
     }
-    set_part(page, text, from)
+    set_part(out, page, text, from)
 }
 
 // An act by its name.
-fn by_name(page: Page, text: &[u8], from: usize) -> Page {
+fn by_name(out: &Out, page: Page, text: &[u8], from: usize) -> Page {
     let word = line::next_word(text, from);
     let start = word.start;
     let end = word.end;
     let op = words::opcode_named(&text[start..end]);
     if op != 0 {
-        return send(page, op, text, end);
+        return send(out, page, op, text, end);
     }
     let act = which(
         &text[start..end],
         b"bytes image room opcode power-on tick wheel-drop cliff charger",
     );
-    by_act(page, act, text, start, end)
+    by_act(out, page, act, text, start, end)
 }
 
 // One act. What came of the one before it is forgotten, save the last command that had a name.
-fn act(page: Page, text: &[u8], from: usize) -> Page {
+fn act(out: &Out, page: Page, text: &[u8], from: usize) -> Page {
     let state = page.state;
     let mut next = page;
     next.was = state.mode;
     next.from = page.end;
     next.number = 0;
     next.length = 0;
-    by_name(next, text, from)
+    by_name(out, next, text, from)
 }
 
 // The acts of a line, from a place on.
-pub fn perform(page: Page, text: &[u8], from: usize) -> Page {
+pub fn perform(out: &Out, page: Page, text: &[u8], from: usize) -> Page {
     let mut now = page;
     let mut at = within(from, text);
     while at < text.len() {
         let end = find(text, at, b';');
-        now = act(now, &text[0..end], at);
+        now = act(out, now, &text[0..end], at);
         if end == text.len() {
             break;
         }

@@ -21,7 +21,7 @@ use crate::page;
 use crate::page::{Page, find, mark, say_fault};
 use command::Command;
 use state::State;
-use terminal::{bytes_from, ends, plus, say, say_bytes, say_form, which, wide, within};
+use terminal::{Out, bytes_from, ends, plus, say, say_bytes, say_form, which, wide, within};
 
 // The fields, by their places among the names: first those that are bytes, last those that are
 // numbers, of which some are shown as words.
@@ -56,15 +56,15 @@ const WAS: usize = 13;
 const FIELDS: usize = 15;
 
 // The bytes from a place to another, as code.
-fn say_range(bytes: &[u8], from: usize, to: usize) {
+fn say_range(out: &Out, bytes: &[u8], from: usize, to: usize) {
     let end = within(to, bytes);
     if from >= end {
-        mark(b'-');
+        mark(out, b'-');
         return;
     }
-    mark(b'`');
-    say_bytes(&bytes[from..end]);
-    mark(b'`');
+    mark(out, b'`');
+    say_bytes(out, &bytes[from..end]);
+    mark(out, b'`');
 }
 
 // A part of them, where a place and a count pick one.
@@ -79,8 +79,8 @@ fn least(a: usize, b: usize) -> usize {
     if a < b { a } else { b }
 }
 
-fn picked(from: usize, to: usize, line_number: usize, text: &[u8], at: usize) -> Range {
-    let read = bytes_from(text, at, line_number);
+fn picked(out: &Out, from: usize, to: usize, line_number: usize, text: &[u8], at: usize) -> Range {
+    let read = bytes_from(out, text, at, line_number);
     let values = read.values;
     let start = plus(from, wide(values[0]));
     let size = wide(values[1]);
@@ -97,38 +97,38 @@ fn picked(from: usize, to: usize, line_number: usize, text: &[u8], at: usize) ->
 }
 
 // The bytes given, or those that came back.
-fn say_part(page: Page, name: usize, range: Range) {
+fn say_part(out: &Out, page: Page, name: usize, range: Range) {
     let given = page.given;
     let answer = page.answer;
     if !range.ok {
         return;
     }
     if name == ANSWER {
-        say_range(&answer, range.from, range.to);
+        say_range(out, &answer, range.from, range.to);
     } else {
-        say_range(&given, range.from, range.to);
+        say_range(out, &given, range.from, range.to);
     }
 }
 
 // The fields that are bytes.
-fn say_listed(page: Page, name: usize, line_number: usize, text: &[u8], at: usize) {
+fn say_listed(out: &Out, page: Page, name: usize, line_number: usize, text: &[u8], at: usize) {
     let range = match name {
-        SENT => picked(page.from, page.end, line_number, text, at),
-        BEFORE => picked(0, page.from, line_number, text, at),
-        _ => picked(0, page.length, line_number, text, at),
+        SENT => picked(out, page.from, page.end, line_number, text, at),
+        BEFORE => picked(out, 0, page.from, line_number, text, at),
+        _ => picked(out, 0, page.length, line_number, text, at),
     };
-    say_part(page, name, range);
+    say_part(out, page, name, range);
 }
 
-fn say_command(page: Page) {
+fn say_command(out: &Out, page: Page) {
     if !page.named {
-        mark(b'-');
+        mark(out, b'-');
         return;
     }
     let frame = page.frame;
-    mark(b'`');
-    words::say_value(frame);
-    mark(b'`');
+    mark(out, b'`');
+    words::say_value(out, frame);
+    mark(out, b'`');
 }
 
 // Whether a command is for a mode: 0 if not, and else 1 for the first such mode and 2 for another.
@@ -139,7 +139,7 @@ fn place_of(command: Command, mode: u8, before: usize) -> usize {
     if before == 0 { 1 } else { 2 }
 }
 
-fn say_modes(page: Page) {
+fn say_modes(out: &Out, page: Page) {
     let message = page.message;
     let command = message.command;
     let off = place_of(command, command::OFF, 0);
@@ -147,14 +147,16 @@ fn say_modes(page: Page) {
     let safe = place_of(command, command::SAFE, plus(off, passive));
     let full = place_of(command, command::FULL, plus(off, plus(passive, safe)));
     say_form(
+        out,
         b"[0 |Off|, Off][1 |Passive|, Passive][2 |Safe|, Safe][3 |Full|, Full]",
         [off, passive, safe, full, 0, 0, 0, 0],
     );
 }
 
 // As code, with both its digits.
-fn say_hex(b: u8) {
+fn say_hex(out: &Out, b: u8) {
     say_form(
+        out,
         b"`0x[0 0|1|2|3|4|5|6|7|8|9|A|B|C|D|E|F][1 0|1|2|3|4|5|6|7|8|9|A|B|C|D|E|F]`",
         [wide(b / 16), wide(b % 16), 0, 0, 0, 0, 0, 0],
     );
@@ -201,30 +203,31 @@ fn number_of(page: Page, name: usize) -> usize {
 }
 
 // How they are shown: as a number, as yes and no, or as a mode.
-fn say_number(page: Page, name: usize) {
+fn say_number(out: &Out, page: Page, name: usize) {
     let n = number_of(page, name);
     let shown = if name < MOTORS { 0 } else { plus(n, 1) };
     say_form(
+        out,
         b"[0 %1|no|yes|Off|Passive|Safe|Full]",
         [shown, n, 0, 0, 0, 0, 0, 0],
     );
 }
 
 // A field that stands alone between its braces.
-fn say_alone(page: Page, name: usize, rest: &[u8]) {
+fn say_alone(out: &Out, page: Page, name: usize, rest: &[u8]) {
     match name {
-        VALUE => say_command(page),
-        MODES => say_modes(page),
-        HEX => say_hex(page.opcode),
+        VALUE => say_command(out, page),
+        MODES => say_modes(out, page),
+        HEX => say_hex(out, page.opcode),
         REST => {
-            say(rest);
+            say(out, rest);
         }
-        _ => say_number(page, name),
+        _ => say_number(out, page, name),
     }
 }
 
 // A field by its name.
-fn field(page: Page, line_number: usize, text: &[u8], from: usize, rest: &[u8]) {
+fn field(out: &Out, page: Page, line_number: usize, text: &[u8], from: usize, rest: &[u8]) {
     let word = line::next_word(text, from);
     let start = word.start;
     let end = word.end;
@@ -233,32 +236,32 @@ fn field(page: Page, line_number: usize, text: &[u8], from: usize, rest: &[u8]) 
         b"sent before answer value modes hex rest written number length room stop motors was mode",
     );
     if name >= FIELDS {
-        say_fault(line_number, start, page::NO_FIELD);
+        say_fault(out, line_number, start, page::NO_FIELD);
         return;
     }
     if name < VALUE {
-        say_listed(page, name, line_number, text, end);
-    } else if ends(text, end, line_number) {
-        say_alone(page, name, rest);
+        say_listed(out, page, name, line_number, text, end);
+    } else if ends(out, text, end, line_number) {
+        say_alone(out, page, name, rest);
     }
 }
 
 // A line with its fields filled in, from a place on.
-pub fn fill(page: Page, line_number: usize, text: &[u8], from: usize, rest: &[u8]) {
+pub fn fill(out: &Out, page: Page, line_number: usize, text: &[u8], from: usize, rest: &[u8]) {
     let mut at = within(from, text);
     while at < text.len() {
         let open = find(text, at, b'{');
-        say(&text[at..open]);
+        say(out, &text[at..open]);
         if open == text.len() {
             break;
         }
         let close = find(text, open, b'}');
         if close == text.len() {
-            say_fault(line_number, open, page::OPEN_BRACE);
+            say_fault(out, line_number, open, page::OPEN_BRACE);
             break;
         }
-        field(page, line_number, &text[0..close], open + 1, rest);
+        field(out, page, line_number, &text[0..close], open + 1, rest);
         at = close + 1;
     }
-    mark(b'\n');
+    mark(out, b'\n');
 }

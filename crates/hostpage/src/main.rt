@@ -32,17 +32,17 @@ mod page;
 use acts::perform;
 use fields::fill;
 use page::{Page, bad, find, put, say_fault};
-use terminal::{plus, within};
+use terminal::{Out, plus, within};
 
 // The most bytes of a line.
 const LONGEST: usize = 2048;
 
 // The layout of rows from here on. Its line is kept whole, so that places are those of the
 // template.
-fn set_form(page: Page, text: &[u8]) -> Page {
+fn set_form(out: &Out, page: Page, text: &[u8]) -> Page {
     let mut form = [0u8; 256];
     if !put(text, &mut form, 0) {
-        return bad(page, 256, page::LONG_FORM);
+        return bad(out, page, 256, page::LONG_FORM);
     }
     let mut next = page;
     next.form = form;
@@ -52,17 +52,18 @@ fn set_form(page: Page, text: &[u8]) -> Page {
 }
 
 // The acts of a row, and the row: its layout begins after `@form `.
-fn row(page: Page, text: &[u8], from: usize) -> Page {
+fn row(out: &Out, page: Page, text: &[u8], from: usize) -> Page {
     let bar = find(text, within(from, text), b'|');
-    let next = perform(page, &text[0..bar], from);
+    let next = perform(out, page, &text[0..bar], from);
     if next.form_size == 0 {
-        return bad(next, 0, page::NO_FORM);
+        return bad(out, next, 0, page::NO_FORM);
     }
     let cells = line::next_word(text, plus(bar, 1));
     let start = cells.start;
     let form = next.form;
     let size = within(next.form_size, &form);
     fill(
+        out,
         next,
         next.form_line_number,
         &form[0..size],
@@ -73,36 +74,37 @@ fn row(page: Page, text: &[u8], from: usize) -> Page {
 }
 
 // A line that begins with @.
-fn by_directive(page: Page, text: &[u8]) -> Page {
+fn by_directive(out: &Out, page: Page, text: &[u8]) -> Page {
     let word = line::next_word(text, 0);
     let start = word.start;
     let end = word.end;
     match terminal::which(&text[start..end], b"@# @do @form @row") {
         0 => page,
-        1 => perform(page, text, end),
-        2 => set_form(page, text),
-        3 => row(page, text, end),
-        _ => bad(page, start, page::NO_DIRECTIVE),
+        1 => perform(out, page, text, end),
+        2 => set_form(out, page, text),
+        3 => row(out, page, text, end),
+        _ => bad(out, page, start, page::NO_DIRECTIVE),
     }
 }
 
 // A line: its bytes are the first `size` of those lent.
-fn take(page: Page, line: &[u8], size: usize, cut: bool) -> Page {
+fn take(out: &Out, page: Page, line: &[u8], size: usize, cut: bool) -> Page {
     if cut {
-        return bad(page, LONGEST, page::LONG_LINE);
+        return bad(out, page, LONGEST, page::LONG_LINE);
     }
     let n = within(size, line);
     let text = &line[0..n];
     if text.len() > 0 && text[0] == b'@' {
-        return by_directive(page, text);
+        return by_directive(out, page, text);
     }
-    fill(page, page.line_number, text, 0, b"");
+    fill(out, page, page.line_number, text, 0, b"");
     page
 }
 
 // A proved loop has to end, and nothing says that the input does: the turns count down from a
 // number that no run uses up.
 fn main(rt: HostRuntime) {
+    let out = Out::new();
     let mut kept = [0u8; LONGEST];
     let line: &mut [u8] = &mut kept;
     let mut input = terminal::open(rt.stdin());
@@ -114,12 +116,12 @@ fn main(rt: HostRuntime) {
         input = rest;
         if got.came != terminal::LINE {
             if got.came == terminal::FAILED {
-                say_fault(input.line_number, 0, page::NOT_READ);
+                say_fault(&out, input.line_number, 0, page::NOT_READ);
             }
             break;
         }
         page.line_number = input.line_number;
-        page = take(page, line, got.size, got.cut);
+        page = take(&out, page, line, got.size, got.cut);
         turns -= 1;
     }
 }

@@ -3,7 +3,7 @@ ghost use Rattle.std.specs.Prelude.{◌≤◌, length};
 
 use command::{Command, Message};
 use state::State;
-use terminal::{plus, say, say_form};
+use terminal::{Out, plus, say, say_form};
 
 // The record, the image and the room that are lent with each call, and what came of the last act:
 // the command where it had a name, with the first bytes of its frame, its opcode, the writer's
@@ -89,8 +89,9 @@ pub const MANY_GIVEN: usize = 7;
 pub const NOT_READ: usize = 8;
 
 // A message with its line and place, which is counted from 1.
-pub fn say_fault(line_number: usize, place: usize, fault: usize) {
+pub fn say_fault(out: &Out, line_number: usize, place: usize, fault: usize) {
     say_form(
+        out,
         b"line %0: place %1: [2 this is none of @#, @do, @form and @row|this is no field|\
         the brace is not closed|no @form was given before this row|\
         a layout has at most 256 bytes|the line has more than 2048 bytes and is left out|\
@@ -101,14 +102,14 @@ pub fn say_fault(line_number: usize, place: usize, fault: usize) {
 }
 
 // A bad line or act is told, and changes nothing.
-pub fn bad(page: Page, place: usize, fault: usize) -> Page {
-    say_fault(page.line_number, place, fault);
+pub fn bad(out: &Out, page: Page, place: usize, fault: usize) -> Page {
+    say_fault(out, page.line_number, place, fault);
     page
 }
 
 // A single byte of text.
-pub fn mark(b: u8) {
-    say(&[b]);
+pub fn mark(out: &Out, b: u8) {
+    say(out, &[b]);
 }
 
 // The place of a byte, from a place on, or the end of the text.

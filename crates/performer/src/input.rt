@@ -4,7 +4,7 @@ ghost use Rattle.std.specs.Prelude.{◌<◌, ◌≤◌, length};
 
 use crate::layout::{byte_at, word_at};
 use std::io::{Read, Stdin};
-use terminal::{plus, say_form, wide, within};
+use terminal::{Out, plus, say_form, wide, within};
 
 // More than the longest record: a run of 1,024 bytes.
 const LONGEST: usize = 2048;
@@ -255,11 +255,12 @@ pub fn past(window: Window, end: usize, block: &mut [u8]) -> Window
 }
 
 // What is wrong is the last line; a whole file has none.
-pub fn say_fault(offset: usize, fault: u8) {
+pub fn say_fault(out: &Out, offset: usize, fault: u8) {
     if fault == END {
         return;
     }
     say_form(
+        out,
         b"offset %0: [1 |unknown kind|cut short|flags above 7|run above 1024|room above 1024||\
         standard input cannot be read]\n",
         [offset, wide(fault), 0, 0, 0, 0, 0, 0],

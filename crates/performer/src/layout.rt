@@ -4,7 +4,7 @@ ghost use Rattle.std.specs.Prelude.{◌<◌};
 use crate::tally::{Sink, put};
 use frame::Partial;
 use state::{Kept, Motors, Song, Songs, State, Stream};
-use terminal::{bits, plus, wide};
+use terminal::{Out, bits, plus, wide};
 
 // The byte at a place, and 0 past the end.
 pub fn byte_at(bytes: &[u8], i: usize) -> u8 {
@@ -117,66 +117,71 @@ pub fn state_of(bytes: &[u8]) -> State {
 
 // ---- to bytes
 
-fn put_one(sink: Sink, b: u8) -> Sink {
-    put(sink, &[b])
+fn put_one(out: &Out, sink: Sink, b: u8) -> Sink {
+    put(out, sink, &[b])
 }
 
-fn put_word(sink: Sink, n: usize) -> Sink {
-    put(sink, &[(n / 256 % 256) as u8, (n % 256) as u8])
+fn put_word(out: &Out, sink: Sink, n: usize) -> Sink {
+    put(out, sink, &[(n / 256 % 256) as u8, (n % 256) as u8])
 }
 
-fn put_motors(sink: Sink, motors: Motors) -> Sink {
+fn put_motors(out: &Out, sink: Sink, motors: Motors) -> Sink {
     let duties = motors.duties;
-    let order = put_one(sink, motors.order);
-    let first = put_word(order, bits(motors.first));
-    let second = put_word(first, bits(motors.second));
-    put(second, &duties)
+    let order = put_one(out, sink, motors.order);
+    let first = put_word(out, order, bits(motors.first));
+    let second = put_word(out, first, bits(motors.second));
+    put(out, second, &duties)
 }
 
-fn put_kept(sink: Sink, kept: Kept) -> Sink {
+fn put_kept(out: &Out, sink: Sink, kept: Kept) -> Sink {
     let leds = kept.leds;
-    let lit = put(put_one(sink, kept.baud), &leds);
-    put_one(put_one(lit, kept.outputs), kept.ir)
+    let lit = put(out, put_one(out, sink, kept.baud), &leds);
+    put_one(out, put_one(out, lit, kept.outputs), kept.ir)
 }
 
-fn put_song(sink: Sink, song: Song) -> Sink {
+fn put_song(out: &Out, sink: Sink, song: Song) -> Sink {
     let notes = song.notes;
-    put(put_one(sink, song.len), &notes)
+    put(out, put_one(out, sink, song.len), &notes)
 }
 
-fn put_songs(sink: Sink, songs: Songs) -> Sink {
+fn put_songs(out: &Out, sink: Sink, songs: Songs) -> Sink {
     let table = songs.table;
     let mut now = sink;
     let mut i = 0;
     while i < 16 {
         let song = table[i];
-        now = put_song(now, song);
+        now = put_song(out, now, song);
         i += 1;
     }
-    put_one(put_one(now, songs.selected), songs.playing)
+    put_one(out, put_one(out, now, songs.selected), songs.playing)
 }
 
-fn put_stream(sink: Sink, stream: Stream) -> Sink {
+fn put_stream(out: &Out, sink: Sink, stream: Stream) -> Sink {
     let ids = stream.ids;
-    put_one(put_one(put(sink, &ids), stream.count), stream.on)
+    put_one(
+        out,
+        put_one(out, put(out, sink, &ids), stream.count),
+        stream.on,
+    )
 }
 
-fn put_partial(sink: Sink, partial: Partial) -> Sink {
+fn put_partial(out: &Out, sink: Sink, partial: Partial) -> Sink {
     let bytes = partial.bytes;
     put_word(
-        put_word(put(sink, &bytes), partial.count),
+        out,
+        put_word(out, put(out, sink, &bytes), partial.count),
         partial.remaining,
     )
 }
 
 // The 602 bytes of a record.
-pub fn put_state(sink: Sink, state: State) -> Sink {
+pub fn put_state(out: &Out, sink: Sink, state: State) -> Sink {
     let motors = state.motors;
     let kept = state.kept;
     let songs = state.songs;
     let stream = state.stream;
     let partial = state.partial;
-    let motors_put = put_motors(put_one(sink, state.mode), motors);
-    let songs_put = put_songs(put_kept(motors_put, kept), songs);
-    put_partial(put_stream(songs_put, stream), partial)
+    let motors_put = put_motors(out, put_one(out, sink, state.mode), motors);
+    let songs_put = put_songs(out, put_kept(out, motors_put, kept), songs);
+    put_partial(out, put_stream(out, songs_put, stream), partial)
 }

@@ -14,7 +14,7 @@ use state::State;
 use std::io::Stdin;
 use std::rt::Env;
 use tally::{Sink, Tally};
-use terminal::{say, within};
+use terminal::{Out, say, within};
 
 // What is written: a summary with the records in its digest, one without, or a line for each call.
 const WHOLE: u8 = 0;
@@ -34,7 +34,7 @@ fn style_named(word: &[u8]) -> u8 {
     }
 }
 
-fn style_asked(rt: &impl Env) -> u8 {
+fn style_asked(rt: &HostRuntime) -> u8 {
     let mut word = [0u8; 16];
     match rt.arg(1, &mut word) {
         Ok(n) => style_named(&word[..n]),
@@ -44,6 +44,7 @@ fn style_asked(rt: &impl Env) -> u8 {
 
 // What a call gave is counted and digested, or told; and its answer is cleared for the next one.
 fn tallied(
+    out: &Out,
     before: Tally,
     style: u8,
     given: Given,
@@ -54,7 +55,7 @@ fn tallied(
     tally::count(numbers, given.number);
     let mut tally = tally::counted(before, given.length);
     if style == TRACE {
-        tally::say_call(given.number, given.read, &buffer[0..n]);
+        tally::say_call(out, given.number, given.read, &buffer[0..n]);
     } else {
         tally.digest = tally::of_answer(tally.digest, given.number, given.read, &buffer[0..n]);
     }
@@ -63,32 +64,32 @@ fn tallied(
 }
 
 // And the record after it.
-fn with_record(before: Tally, style: u8, state: State) -> Tally {
+fn with_record(out: &Out, before: Tally, style: u8, state: State) -> Tally {
     let traces = style == TRACE;
     let sink = Sink {
         digest: before.digest,
         traces,
     };
-    let put = layout::put_state(sink, state);
+    let put = layout::put_state(out, sink, state);
     let mut tally = before;
     tally.digest = put.digest;
     if traces {
-        say(b"\n");
+        say(out, b"\n");
     }
     tally
 }
 
-fn finish(tally: Tally, numbers: [usize; 10], style: u8, offset: usize, fault: u8) {
+fn finish(out: &Out, tally: Tally, numbers: [usize; 10], style: u8, offset: usize, fault: u8) {
     if style != TRACE {
-        tally::say_tally(tally, numbers);
+        tally::say_tally(out, tally, numbers);
     }
-    input::say_fault(offset, fault);
+    input::say_fault(out, offset, fault);
 }
 
 // The whole file. The record stands in an array of two, by turns the one before a call and the one
 // after it, so that the compiler moves it as a whole; and runs are called here, so that what they
 // give is moved once.
-fn perform(stdin: Stdin, first: State, style: u8, block: &mut [u8]) {
+fn perform(out: &Out, stdin: Stdin, first: State, style: u8, block: &mut [u8]) {
     let mut space = [0u8; 1024];
     let buffer: &mut [u8] = &mut space;
     let mut states = [first; 2];
@@ -99,7 +100,7 @@ fn perform(stdin: Stdin, first: State, style: u8, block: &mut [u8]) {
     while window.turns > 0 {
         let record = input::next(window, block);
         if record.fault != input::WHOLE {
-            return finish(tally, numbers, style, window.offset, record.fault);
+            return finish(out, tally, numbers, style, window.offset, record.fault);
         }
         let body = input::body(record, block);
         let at = (window.turns % 2) as usize;
@@ -116,9 +117,9 @@ fn perform(stdin: Stdin, first: State, style: u8, block: &mut [u8]) {
             let after = ran.state;
             states[1 - at] = after;
             let given = calls::gave(ran.number, ran.length, ran.read);
-            tally = tallied(tally, style, given, &mut numbers, buffer);
+            tally = tallied(out, tally, style, given, &mut numbers, buffer);
             if style != BARE {
-                tally = with_record(tally, style, states[1 - at]);
+                tally = with_record(out, tally, style, states[1 - at]);
             }
         }
         window = input::past(window, record.end, block);
@@ -126,7 +127,8 @@ fn perform(stdin: Stdin, first: State, style: u8, block: &mut [u8]) {
 }
 
 fn main(rt: HostRuntime) {
+    let out = Out::new();
     let mut space = io::large_buffer();
     let style = style_asked(&rt);
-    perform(rt.stdin(), state::power_on(), style, &mut space);
+    perform(&out, rt.stdin(), state::power_on(), style, &mut space);
 }

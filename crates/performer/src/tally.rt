@@ -1,7 +1,7 @@
 // What was given, counted and digested, or told call by call.
 use crate::layout::put_byte;
 use std::num::wrapping_add_usize;
-use terminal::{plus, say, say_form, wide, within};
+use terminal::{Out, plus, say, say_form, wide, within};
 
 // How many calls, the bytes answered, and the digest.
 #[derive(Clone, Copy)]
@@ -81,16 +81,16 @@ fn put_hex(out: &mut [u8], bytes: &[u8]) {
 }
 
 // Up to 1,024 bytes in hexadecimal.
-fn say_hex(bytes: &[u8]) {
+fn say_hex(out: &Out, bytes: &[u8]) {
     let mut text = [0u8; 2048];
     put_hex(&mut text, bytes);
     let size = within(plus(bytes.len(), bytes.len()), &text);
-    say(&text[0..size]);
+    say(out, &text[0..size]);
 }
 
-pub fn put(sink: Sink, bytes: &[u8]) -> Sink {
+pub fn put(out: &Out, sink: Sink, bytes: &[u8]) -> Sink {
     if sink.traces {
-        say_hex(bytes);
+        say_hex(out, bytes);
         return sink;
     }
     Sink {
@@ -100,25 +100,30 @@ pub fn put(sink: Sink, bytes: &[u8]) -> Sink {
 }
 
 // A line for a call, up to the record after it.
-pub fn say_call(number: u8, read: usize, answer: &[u8]) {
+pub fn say_call(out: &Out, number: u8, read: usize, answer: &[u8]) {
     let size = answer.len();
-    say_form(b"%0 %1 %2 [1 -]", [wide(number), size, read, 0, 0, 0, 0, 0]);
-    say_hex(answer);
-    say(b" ");
+    say_form(
+        out,
+        b"%0 %1 %2 [1 -]",
+        [wide(number), size, read, 0, 0, 0, 0, 0],
+    );
+    say_hex(out, answer);
+    say(out, b" ");
 }
 
-fn say_numbers(numbers: [usize; 10]) {
+fn say_numbers(out: &Out, numbers: [usize; 10]) {
     let mut i = 0;
     while i < 10 {
-        say_form(b" %0", [numbers[i], 0, 0, 0, 0, 0, 0, 0]);
+        say_form(out, b" %0", [numbers[i], 0, 0, 0, 0, 0, 0, 0]);
         i += 1;
     }
 }
 
-pub fn say_tally(tally: Tally, numbers: [usize; 10]) {
-    say_form(b"calls %0 numbers", [tally.calls, 0, 0, 0, 0, 0, 0, 0]);
-    say_numbers(numbers);
+pub fn say_tally(out: &Out, tally: Tally, numbers: [usize; 10]) {
+    say_form(out, b"calls %0 numbers", [tally.calls, 0, 0, 0, 0, 0, 0, 0]);
+    say_numbers(out, numbers);
     say_form(
+        out,
         b" bytes %0 digest %1\n",
         [tally.bytes, tally.digest as usize, 0, 0, 0, 0, 0, 0],
     );

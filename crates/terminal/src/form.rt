@@ -5,7 +5,7 @@
 //     [k a|b|c]   the alternative whose number is value k, from 0; nothing where there are fewer
 //
 // Values are numbered from 0 to 7. Marks may stand in an alternative, but no brackets.
-use crate::output::{plus, say, within};
+use crate::output::{Out, plus, say, within};
 
 // What waits to be written at once.
 const ROOM: usize = 256;
@@ -38,21 +38,21 @@ fn begun() -> Form {
     }
 }
 
-fn flushed(form: Form) -> Form {
+fn flushed(out: &Out, form: Form) -> Form {
     let mut next = form;
     let text = form.text;
     let n = within(form.size, &text);
-    let columns = say(&text[0..n]);
+    let columns = say(out, &text[0..n]);
     next.written = plus(form.written, columns);
     next.size = 0;
     next
 }
 
-fn put(form: Form, b: u8) -> Form {
+fn put(out: &Out, form: Form, b: u8) -> Form {
     let mut next = if form.size < ROOM {
         form
     } else {
-        flushed(form)
+        flushed(out, form)
     };
     let mut text = next.text;
     let at = next.size;
@@ -64,30 +64,30 @@ fn put(form: Form, b: u8) -> Form {
     next
 }
 
-fn put_digits(form: Form, digits: &[u8]) -> Form {
+fn put_digits(out: &Out, form: Form, digits: &[u8]) -> Form {
     let mut next = form;
     let mut i = 0;
     while i < digits.len() {
-        next = put(next, digits[i]);
+        next = put(out, next, digits[i]);
         i += 1;
     }
     next
 }
 
-fn put_number(form: Form, n: usize) -> Form {
+fn put_number(out: &Out, form: Form, n: usize) -> Form {
     let mut digits = [0u8; 20];
     let k = io::decimal(n as u64, &mut digits);
-    put_digits(form, &digits[..k])
+    put_digits(out, form, &digits[..k])
 }
 
-fn put_signed(form: Form, bits: usize) -> Form {
+fn put_signed(out: &Out, form: Form, bits: usize) -> Form {
     if bits < 32768 {
-        return put_number(form, bits);
+        return put_number(out, form, bits);
     }
     if bits >= 65536 {
-        return put_number(form, bits);
+        return put_number(out, form, bits);
     }
-    put_number(put(form, b'-'), 65536 - bits)
+    put_number(out, put(out, form, b'-'), 65536 - bits)
 }
 
 fn open(form: Form, wanted: usize) -> Form {
@@ -110,7 +110,7 @@ fn unmarked(form: Form) -> Form {
 }
 
 // A mark and its value.
-fn mark_with(form: Form, value: usize) -> Form {
+fn mark_with(out: &Out, form: Form, value: usize) -> Form {
     let mark = form.mark;
     let next = unmarked(form);
     if mark == b'[' {
@@ -120,13 +120,13 @@ fn mark_with(form: Form, value: usize) -> Form {
         return next;
     }
     if mark == b'~' {
-        return put_signed(next, value);
+        return put_signed(out, next, value);
     }
-    put_number(next, value)
+    put_number(out, next, value)
 }
 
 // The byte after a mark: the value's number, or the space before the first alternative.
-fn after_mark(form: Form, b: u8, values: [usize; 8]) -> Form {
+fn after_mark(out: &Out, form: Form, b: u8, values: [usize; 8]) -> Form {
     if form.mark == SPACE {
         return unmarked(form);
     }
@@ -137,11 +137,11 @@ fn after_mark(form: Form, b: u8, values: [usize; 8]) -> Form {
         return unmarked(form);
     }
     let k = (b - 48) as usize;
-    mark_with(form, values[k])
+    mark_with(out, form, values[k])
 }
 
 // A byte that belongs to no mark.
-fn plain(form: Form, b: u8) -> Form {
+fn plain(out: &Out, form: Form, b: u8) -> Form {
     let mut next = form;
     if b == b'%' || (b == b'~' || b == b'[') {
         next.mark = b;
@@ -156,33 +156,33 @@ fn plain(form: Form, b: u8) -> Form {
         return next;
     }
     if is_shown(form) {
-        return put(form, b);
+        return put(out, form, b);
     }
     form
 }
 
-fn stepped(form: Form, b: u8, values: [usize; 8]) -> Form {
+fn stepped(out: &Out, form: Form, b: u8, values: [usize; 8]) -> Form {
     if form.mark == 0 {
-        return plain(form, b);
+        return plain(out, form, b);
     }
-    after_mark(form, b, values)
+    after_mark(out, form, b, values)
 }
 
 // The columns that the form took, as `say` gives them.
-pub fn say_form(form: &[u8], values: [usize; 8]) -> usize {
+pub fn say_form(out: &Out, form: &[u8], values: [usize; 8]) -> usize {
     let mut now = begun();
     let mut i = 0;
     while i < form.len() {
-        now = stepped(now, form[i], values);
+        now = stepped(out, now, form[i], values);
         i += 1;
     }
-    let last = flushed(now);
+    let last = flushed(out, now);
     last.written
 }
 
 // One form of a table of them, each behind an @, counted from 0. A program's texts are so in one
-// place, and to say one of them is a call that lends nothing, which is cheap to check.
-pub fn say_entry(table: &[u8], entry: usize, values: [usize; 8]) -> usize {
+// place, and to say one of them is a call that lends no text, which is cheap to check.
+pub fn say_entry(out: &Out, table: &[u8], entry: usize, values: [usize; 8]) -> usize {
     let wanted = plus(entry, 1);
     let mut now = begun();
     let mut at = 0;
@@ -192,10 +192,10 @@ pub fn say_entry(table: &[u8], entry: usize, values: [usize; 8]) -> usize {
         if b == b'@' {
             at = plus(at, 1);
         } else if at == wanted {
-            now = stepped(now, b, values);
+            now = stepped(out, now, b, values);
         }
         i += 1;
     }
-    let last = flushed(now);
+    let last = flushed(out, now);
     last.written
 }

@@ -14,5 +14,6 @@ pub use input::{END, FAILED, Input, LINE, Line, next_line, open};
 pub use names::which;
 pub use numbers::{Bytes, MOST, Signed, bytes_from, ends, say_wanted, say_where, signed_from};
 pub use output::{
-    bits, pad, plus, say, say_bytes, say_joined, say_number, say_shown, say_signed, wide, within,
+    Out, bits, pad, plus, say, say_bytes, say_joined, say_number, say_shown, say_signed, wide,
+    within,
 };

@@ -2,7 +2,7 @@
 ghost use Rattle.std.specs.Prelude.{◌≤◌};
 
 use crate::form::say_form;
-use crate::output::{plus, say, say_shown, wide};
+use crate::output::{Out, plus, say, say_shown, wide};
 use line::Number;
 
 // The most numbers of a line.
@@ -63,23 +63,25 @@ fn check_byte(word: &[u8]) -> Checked {
 }
 
 // The start of a message: where a person finds what was wrong. Places are counted from 1.
-pub fn say_where(line_number: usize, place: usize) {
+pub fn say_where(out: &Out, line_number: usize, place: usize) {
     say_form(
+        out,
         b"line %0: place %1: ",
         [line_number, plus(place, 1), 0, 0, 0, 0, 0, 0],
     );
 }
 
-fn say_fault(word: &[u8], fault: u8) {
-    say_shown(word);
+fn say_fault(out: &Out, word: &[u8], fault: u8) {
+    say_shown(out, word);
     say_form(
+        out,
         b"[0 | is not a number from 0 to 255| is above 255| is below 0]\n",
         [wide(fault), 0, 0, 0, 0, 0, 0, 0],
     );
 }
 
 // The numbers from a place to the text's end, 512 at most; one word more is told.
-pub fn bytes_from(text: &[u8], from: usize, line_number: usize) -> Bytes
+pub fn bytes_from(out: &Out, text: &[u8], from: usize, line_number: usize) -> Bytes
     ensures { result.count ≤ 512 }
 {
     let mut values = [0u8; 512];
@@ -98,8 +100,8 @@ pub fn bytes_from(text: &[u8], from: usize, line_number: usize) -> Bytes
         }
         let checked = check_byte(&text[start..end]);
         if checked.fault != RIGHT {
-            say_where(line_number, start);
-            say_fault(&text[start..end], checked.fault);
+            say_where(out, line_number, start);
+            say_fault(out, &text[start..end], checked.fault);
             return Bytes {
                 values,
                 count,
@@ -110,14 +112,15 @@ pub fn bytes_from(text: &[u8], from: usize, line_number: usize) -> Bytes
         count += 1;
         at = end;
     }
-    let ok = ends(text, at, line_number);
+    let ok = ends(out, text, at, line_number);
     Bytes { values, count, ok }
 }
 
 // What is said of too many numbers or too few.
-pub fn say_wanted(line_number: usize, place: usize, wanted: usize, given: usize) {
-    say_where(line_number, place);
+pub fn say_wanted(out: &Out, line_number: usize, place: usize, wanted: usize, given: usize) {
+    say_where(out, line_number, place);
     say_form(
+        out,
         b"numbers wanted: %0, given: %1\n",
         [wanted, given, 0, 0, 0, 0, 0, 0],
     );
@@ -142,10 +145,11 @@ fn bits_of(word: &[u8], most: usize) -> usize {
 }
 
 // A word that is no number of a width, or none.
-fn say_not_signed(word: &[u8], most: usize) {
-    say_shown(word);
+fn say_not_signed(out: &Out, word: &[u8], most: usize) {
+    say_shown(out, word);
     let missing = if word.len() == 0 { 1 } else { 0 };
     say_form(
+        out,
         b"[0  is not a number from -%1 to %2|a number is missing]\n",
         [missing, plus(most, 1), most, 0, 0, 0, 0, 0],
     );
@@ -153,7 +157,7 @@ fn say_not_signed(word: &[u8], most: usize) {
 
 // A number with a sign, from a place on. Its width has the numbers from -(most + 1) to most,
 // sixteen bits at the widest.
-pub fn signed_from(text: &[u8], from: usize, line_number: usize, most: usize) -> Signed {
+pub fn signed_from(out: &Out, text: &[u8], from: usize, line_number: usize, most: usize) -> Signed {
     let word = line::next_word(text, from);
     let start = word.start;
     let end = word.end;
@@ -166,8 +170,8 @@ pub fn signed_from(text: &[u8], from: usize, line_number: usize, most: usize) ->
             ok: true,
         };
     }
-    say_where(line_number, start);
-    say_not_signed(&text[start..end], most);
+    say_where(out, line_number, start);
+    say_not_signed(out, &text[start..end], most);
     Signed {
         value: 0,
         next: end,
@@ -176,15 +180,15 @@ pub fn signed_from(text: &[u8], from: usize, line_number: usize, most: usize) ->
 }
 
 // Whether the text ends here; a word that is left over is told.
-pub fn ends(text: &[u8], from: usize, line_number: usize) -> bool {
+pub fn ends(out: &Out, text: &[u8], from: usize, line_number: usize) -> bool {
     let word = line::next_word(text, from);
     let start = word.start;
     let end = word.end;
     if start == end {
         return true;
     }
-    say_where(line_number, start);
-    say_shown(&text[start..end]);
-    say(b" is one word too many\n");
+    say_where(out, line_number, start);
+    say_shown(out, &text[start..end]);
+    say(out, b" is one word too many\n");
     false
 }

@@ -2,16 +2,31 @@
 // laid out.
 ghost use Rattle.std.specs.Prelude.{◌≡◌, ◌<◌, ◌≤◌, length};
 
+use std::cell::Cell;
+
 const STDOUT: i32 = 1;
 
 const STDERR: i32 = 2;
 
-// Text as it is. Output that cannot be written is told once, where it still may be seen: standard
-// error is closed behind it, so that a later failure has nowhere to go.
-pub fn say(text: &[u8]) -> usize
+// Standard output, and whether it has been told that it cannot be written.
+#[derive(Drop)]
+pub struct Out {
+    told: Cell<bool>,
+}
+
+impl Out {
+    pub fn new() -> Out {
+        Out {
+            told: Cell::new(false),
+        }
+    }
+}
+
+// Text as it is. Output that cannot be written is told once, where it still may be seen.
+pub fn say(out: &Out, text: &[u8]) -> usize
     ensures { result ≡ length text.now }
 {
-    if !io::write_all(STDOUT, text) {
+    if !io::write_all(STDOUT, text) && !out.told.replace(true) {
         io::write_all(STDERR, b"standard output cannot be written\n");
     }
     text.len()
@@ -23,10 +38,10 @@ pub fn plus(a: usize, b: usize) -> usize {
 }
 
 // A number, in decimal digits.
-pub fn say_number(n: usize) -> usize {
+pub fn say_number(out: &Out, n: usize) -> usize {
     let mut digits = [0u8; 20];
     let k = io::decimal(n as u64, &mut digits);
-    say(&digits[..k])
+    say(out, &digits[..k])
 }
 
 pub fn wide(b: u8) -> usize
@@ -43,57 +58,57 @@ pub fn bits(v: i16) -> usize
 }
 
 // A sixteen-bit number with its sign.
-pub fn say_signed(v: i16) -> usize {
+pub fn say_signed(out: &Out, v: i16) -> usize {
     let bits = bits(v);
     if bits < 32768 {
-        return say_number(bits);
+        return say_number(out, bits);
     }
-    plus(say(b"-"), say_number(65536 - bits))
+    plus(say(out, b"-"), say_number(out, 65536 - bits))
 }
 
 // The columns of one number of a list.
-fn say_item(i: usize, b: u8, between: &[u8]) -> usize {
-    let gap = if i == 0 { 0 } else { say(between) };
-    plus(gap, say_number(wide(b)))
+fn say_item(out: &Out, i: usize, b: u8, between: &[u8]) -> usize {
+    let gap = if i == 0 { 0 } else { say(out, between) };
+    plus(gap, say_number(out, wide(b)))
 }
 
 // Numbers, with a text between them.
-pub fn say_joined(bytes: &[u8], between: &[u8]) -> usize {
+pub fn say_joined(out: &Out, bytes: &[u8], between: &[u8]) -> usize {
     let mut used = 0;
     let mut i = 0;
     while i < bytes.len() {
-        used = plus(used, say_item(i, bytes[i], between));
+        used = plus(used, say_item(out, i, bytes[i], between));
         i += 1;
     }
     used
 }
 
-pub fn say_bytes(bytes: &[u8]) -> usize {
-    say_joined(bytes, b" ")
+pub fn say_bytes(out: &Out, bytes: &[u8]) -> usize {
+    say_joined(out, bytes, b" ")
 }
 
-fn say_visible(b: u8) {
+fn say_visible(out: &Out, b: u8) {
     if b >= 32 && b < 127 {
-        say(&[b]);
+        say(out, &[b]);
     } else {
-        say(b".");
+        say(out, b".");
     }
 }
 
 // Text that a person typed: a byte that a terminal would not show is written as a dot.
-pub fn say_shown(text: &[u8]) {
+pub fn say_shown(out: &Out, text: &[u8]) {
     let mut i = 0;
     while i < text.len() {
-        say_visible(text[i]);
+        say_visible(out, text[i]);
         i += 1;
     }
 }
 
 // Spaces up to a column.
-pub fn pad(used: usize, width: usize) {
+pub fn pad(out: &Out, used: usize, width: usize) {
     let mut at = used;
     while at < width {
-        say(b" ");
+        say(out, b" ");
         at += 1;
     }
 }

@@ -6,7 +6,7 @@
 //     held I N     stored N (how many bytes are held)     owed N
 use frame::Partial;
 use state::{Kept, Motors, Song, Songs, State, Stream};
-use terminal::{bits, say, say_shown, say_where, signed_from, which};
+use terminal::{Out, bits, say, say_shown, say_where, signed_from, which};
 
 // The numbers of a setting: a place, a place in that, and a value, each below a limit; where the
 // limit is 0 the number is not there.
@@ -106,7 +106,7 @@ fn limits_of(setting: usize) -> Limits {
 }
 
 // A number below a limit, from a place on; a limit of 0 reads nothing.
-fn part_from(text: &[u8], from: usize, limit: usize, line_number: usize) -> Part {
+fn part_from(out: &Out, text: &[u8], from: usize, limit: usize, line_number: usize) -> Part {
     if limit == 0 {
         return Part {
             value: 0,
@@ -115,13 +115,16 @@ fn part_from(text: &[u8], from: usize, limit: usize, line_number: usize) -> Part
             ok: true,
         };
     }
-    let read = signed_from(text, from, line_number, 32767);
+    let read = signed_from(out, text, from, line_number, 32767);
     let value = read.value;
     let bits = bits(value);
     let fits = bits < limit;
     if !fits {
-        say_where(line_number, from);
-        say(b"the number after this place is too large, or below 0\n");
+        say_where(out, line_number, from);
+        say(
+            out,
+            b"the number after this place is too large, or below 0\n",
+        );
     }
     Part {
         value,
@@ -256,6 +259,7 @@ pub fn is_part(word: &[u8]) -> bool {
 
 // The numbers of a setting, from a place on.
 fn set_numbers(
+    out: &Out,
     state: State,
     setting: usize,
     text: &[u8],
@@ -263,9 +267,9 @@ fn set_numbers(
     line_number: usize,
 ) -> Changed {
     let limits = limits_of(setting);
-    let place = part_from(text, from, limits.place, line_number);
-    let inner = part_from(text, place.next, limits.inner, line_number);
-    let value = part_from(text, inner.next, limits.value, line_number);
+    let place = part_from(out, text, from, limits.place, line_number);
+    let inner = part_from(out, text, place.next, limits.inner, line_number);
+    let value = part_from(out, text, inner.next, limits.value, line_number);
     let next = set(state, setting, place.bits, inner.bits, value);
     Changed {
         state: next,
@@ -275,17 +279,17 @@ fn set_numbers(
 }
 
 // A part by its name and its numbers, from a place on.
-pub fn set_part(state: State, text: &[u8], from: usize, line_number: usize) -> Changed {
+pub fn set_part(out: &Out, state: State, text: &[u8], from: usize, line_number: usize) -> Changed {
     let word = line::next_word(text, from);
     let start = word.start;
     let end = word.end;
     let setting = setting_of(&text[start..end]);
     if setting < SETTINGS {
-        return set_numbers(state, setting, text, end, line_number);
+        return set_numbers(out, state, setting, text, end, line_number);
     }
-    say_where(line_number, start);
-    say_shown(&text[start..end]);
-    say(b" is no part of a record\n");
+    say_where(out, line_number, start);
+    say_shown(out, &text[start..end]);
+    say(out, b" is no part of a record\n");
     Changed {
         state,
         next: end,

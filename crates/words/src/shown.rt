@@ -1,21 +1,23 @@
 // How modes, numbers and commands are shown. Each gives back the columns that it took.
-use terminal::{bits, plus, say, say_form, say_joined, wide, within};
+use terminal::{Out, bits, plus, say, say_form, say_joined, wide, within};
 
 fn at_most(n: usize, most: usize) -> usize {
     if n <= most { n } else { most }
 }
 
-pub fn say_mode(mode: u8) -> usize {
+pub fn say_mode(out: &Out, mode: u8) -> usize {
     let n = wide(mode);
     say_form(
+        out,
         b"[0 Off|Passive|Safe|Full|mode %1]",
         [at_most(n, 4), n, 0, 0, 0, 0, 0, 0],
     )
 }
 
 // The words for a number given back.
-pub fn say_meaning(number: u8) -> usize {
+pub fn say_meaning(out: &Out, number: u8) -> usize {
     say_form(
+        out,
         b"[0 done|1 unknown opcode|2 not offered|3 wrong mode|4 data not legal|5 no song|\
         6 busy playing|7 no room for the answer|8 bad record|9 waiting for more of the frame]",
         [wide(number), 0, 0, 0, 0, 0, 0, 0],
@@ -31,9 +33,10 @@ fn name_of(op: u8) -> usize {
     }
 }
 
-fn say_command(bytes: [u8; 35]) -> usize {
+fn say_command(out: &Out, bytes: [u8; 35]) -> usize {
     let op = bytes[0];
     say_form(
+        out,
         b"[0 Start|Baud(%1)|Control|Safe|Full|Power|Spot|Cover|Demo(~4)|Drive(~5, ~6)|Drivers(%1)|\
         Leds(%1, %2, %3)|Song(%1, %2)|Play(%1)|Sensors(%1)|Dock|Duties(%1, %2, %3)|\
         Direct(~5, ~6)|Unknown(%7)|Outputs(%1)|Stream(%1)|QueryList(%1)|Pause(%1)|Infrared(%1)|\
@@ -70,8 +73,8 @@ fn used(bytes: [u8; 35]) -> usize {
 
 // The command of a whole frame as a value, and in brackets its notes or ids where it has some:
 // Stream(2) [29, 13].
-pub fn say_value(bytes: [u8; 35]) -> usize {
-    let name = say_command(bytes);
+pub fn say_value(out: &Out, bytes: [u8; 35]) -> usize {
+    let name = say_command(out, bytes);
     let n = used(bytes);
     if n == 0 {
         return name;
@@ -81,6 +84,6 @@ pub fn say_value(bytes: [u8; 35]) -> usize {
     if end < from {
         return name;
     }
-    let list = plus(say(b" ["), say_joined(&bytes[from..end], b", "));
-    plus(name, plus(list, say(b"]")))
+    let list = plus(say(out, b" ["), say_joined(out, &bytes[from..end], b", "));
+    plus(name, plus(list, say(out, b"]")))
 }

@@ -3,7 +3,7 @@
 use command::Message;
 use frame::Length;
 use line::Number;
-use terminal::{bytes_from, ends, say, say_wanted, say_where, signed_from};
+use terminal::{Out, bytes_from, ends, say, say_wanted, say_where, signed_from};
 
 // A command, and the first bytes of its frame. Not ok where the values were bad, and then it has
 // been said.
@@ -54,24 +54,24 @@ pub fn opcode_named(word: &[u8]) -> u8 {
 }
 
 // A signed byte: the low byte of its sixteen bits.
-fn signed_byte(op: u8, text: &[u8], from: usize, line_number: usize) -> Framed {
+fn signed_byte(out: &Out, op: u8, text: &[u8], from: usize, line_number: usize) -> Framed {
     let mut bytes = [0u8; 35];
-    let read = signed_from(text, from, line_number, 127);
-    let ok = read.ok && ends(text, read.next, line_number);
+    let read = signed_from(out, text, from, line_number, 127);
+    let ok = read.ok && ends(out, text, read.next, line_number);
     bytes[0] = op;
     bytes[1] = wire::low16(read.value);
     Framed { bytes, ok }
 }
 
 // Two numbers of sixteen bits, high byte first.
-fn pair(op: u8, text: &[u8], from: usize, line_number: usize) -> Framed {
+fn pair(out: &Out, op: u8, text: &[u8], from: usize, line_number: usize) -> Framed {
     let mut bytes = [0u8; 35];
-    let first = signed_from(text, from, line_number, 32767);
+    let first = signed_from(out, text, from, line_number, 32767);
     if !first.ok {
         return Framed { bytes, ok: false };
     }
-    let second = signed_from(text, first.next, line_number, 32767);
-    let ok = second.ok && ends(text, second.next, line_number);
+    let second = signed_from(out, text, first.next, line_number, 32767);
+    let ok = second.ok && ends(out, text, second.next, line_number);
     bytes[0] = op;
     bytes[1] = wire::high16(first.value);
     bytes[2] = wire::low16(first.value);
@@ -97,24 +97,24 @@ fn behind(head: [u8; 35], at: usize, values: [u8; 512], from: usize) -> [u8; 35]
 }
 
 // Numbers of one byte each, of which there are as many as the opcode says.
-fn plain(op: u8, wanted: usize, text: &[u8], from: usize, line_number: usize) -> Framed {
-    let read = bytes_from(text, from, line_number);
+fn plain(out: &Out, op: u8, wanted: usize, text: &[u8], from: usize, line_number: usize) -> Framed {
+    let read = bytes_from(out, text, from, line_number);
     let values = read.values;
     let mut head = [0u8; 35];
     head[0] = op;
     let bytes = behind(head, 1, values, 0);
     if read.ok && read.count != wanted {
-        say_wanted(line_number, from, wanted, read.count);
+        say_wanted(out, line_number, from, wanted, read.count);
         return Framed { bytes, ok: false };
     }
     Framed { bytes, ok: read.ok }
 }
 
 // A command without data: nothing stands after its name.
-fn bare(op: u8, text: &[u8], from: usize, line_number: usize) -> Framed {
+fn bare(out: &Out, op: u8, text: &[u8], from: usize, line_number: usize) -> Framed {
     let mut bytes = [0u8; 35];
     bytes[0] = op;
-    let ok = ends(text, from, line_number);
+    let ok = ends(out, text, from, line_number);
     Framed { bytes, ok }
 }
 
@@ -123,8 +123,8 @@ fn clipped(n: usize) -> u8 {
 }
 
 // Ids: their count comes first. Past its legal count a frame is its bytes up to the count.
-fn counted(op: u8, text: &[u8], from: usize, line_number: usize) -> Framed {
-    let read = bytes_from(text, from, line_number);
+fn counted(out: &Out, op: u8, text: &[u8], from: usize, line_number: usize) -> Framed {
+    let read = bytes_from(out, text, from, line_number);
     let values = read.values;
     let mut head = [0u8; 35];
     head[0] = op;
@@ -134,8 +134,8 @@ fn counted(op: u8, text: &[u8], from: usize, line_number: usize) -> Framed {
 }
 
 // A song's number and its notes, two numbers each.
-fn song(op: u8, text: &[u8], from: usize, line_number: usize) -> Framed {
-    let read = bytes_from(text, from, line_number);
+fn song(out: &Out, op: u8, text: &[u8], from: usize, line_number: usize) -> Framed {
+    let read = bytes_from(out, text, from, line_number);
     let values = read.values;
     let count = read.count;
     let mut head = [0u8; 35];
@@ -144,37 +144,37 @@ fn song(op: u8, text: &[u8], from: usize, line_number: usize) -> Framed {
     head[2] = clipped(count / 2);
     let bytes = behind(head, 3, values, 1);
     if read.ok && count % 2 == 0 {
-        say_where(line_number, from);
-        say(b"a song is its number and two numbers for each note\n");
+        say_where(out, line_number, from);
+        say(out, b"a song is its number and two numbers for each note\n");
         return Framed { bytes, ok: false };
     }
     Framed { bytes, ok: read.ok }
 }
 
-fn frame_from(op: u8, text: &[u8], from: usize, line_number: usize) -> Framed {
+fn frame_from(out: &Out, op: u8, text: &[u8], from: usize, line_number: usize) -> Framed {
     if op == 136 {
-        return signed_byte(op, text, from, line_number);
+        return signed_byte(out, op, text, from, line_number);
     }
     if op == 137 || op == 145 {
-        return pair(op, text, from, line_number);
+        return pair(out, op, text, from, line_number);
     }
     let length = frame::data_length(op);
     match length {
         Length::Fixed(n) => {
             if n == 0 {
-                return bare(op, text, from, line_number);
+                return bare(out, op, text, from, line_number);
             }
-            plain(op, n, text, from, line_number)
+            plain(out, op, n, text, from, line_number)
         }
-        Length::Song => song(op, text, from, line_number),
-        Length::Counted => counted(op, text, from, line_number),
-        Length::Unknown => bare(op, text, from, line_number),
+        Length::Song => song(out, op, text, from, line_number),
+        Length::Counted => counted(out, op, text, from, line_number),
+        Length::Unknown => bare(out, op, text, from, line_number),
     }
 }
 
 // The command of an opcode and the values from a place to the text's end, as it would be read.
-pub fn message_from(op: u8, text: &[u8], from: usize, line_number: usize) -> Typed {
-    let framed = frame_from(op, text, from, line_number);
+pub fn message_from(out: &Out, op: u8, text: &[u8], from: usize, line_number: usize) -> Typed {
+    let framed = frame_from(out, op, text, from, line_number);
     let bytes = framed.bytes;
     let message = command::decode(bytes);
     Typed {
