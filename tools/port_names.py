@@ -6,8 +6,8 @@ usage: tools/port_names.py          at the top of a checkout that port.py has ju
 A name that specs/ or a file right in proofs/ declares (a definition, a lemma, a field of a record)
 loses its capitals and its dashes: `storesBody` is `stores_body`, `frame-says` is `frame_says`. Where
 two names would fall together in a file, the one of the lemma or the field gets `_lem`. Names that
-come from elsewhere, and functions, types, strings and inputs of src/, stay. docs/PORT.md's table of
-names is made from what this prints.
+come from elsewhere, and functions, types, strings and inputs of src/, stay. It prints the names
+that it turned; docs/PORT-NAMES.txt has them all.
 """
 
 import collections

@@ -1,7 +1,7 @@
 -- The rules for every record and every value, as docs/RULES.md has them: each case of a call beside
 -- what it gives. They cite the columns of modes and legal data, the packets and the setters, and
--- none of this crate's own tests but `into_cliff`, in laws about it alone. The tables of cases stand
--- at chosen values, and a rule that is wrong between them would pass those.
+-- none of this crate's own tests but `into_cliff`, in laws about it alone. The tables of cases
+-- stand at chosen values, and a rule that is wrong between them would pass those.
 -- Assumes nothing.
 use Rattle.std.specs.Prelude.{◌≡◌, Bool, true, false, cond, ◌&&◌, ◌||◌, List, [], ◌∷◌, ℕ, ◌+◌, ◌-◌, ◌*◌, ◌/◌, ◌%◌, ◌≤◌, ◌<◌, T, leb, ltb, eqb, ℤ, pos, ◌+ℤ◌, ◌-ℤ◌, ◌*ℤ◌, length, take}
 use Rattle.std.specs.Int.Signed.{lt_z}

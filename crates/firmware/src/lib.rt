@@ -1,6 +1,6 @@
 // The board for firmware in C or Rust: the crate `firmware_c` exports these calls, `tools/archive`
-// writes the archive, bindings/c has the header and bindings/rust the package; docs/FIRMWARE.md says
-// what to call when.
+// writes the archive, bindings/c has the header and bindings/rust the package; docs/FIRMWARE.md
+// says what to call when.
 //
 // Each call of the board is lent the state record, hands it to the board by value and stores what
 // comes back. Nothing is kept between two calls. What crosses, in or out, is numbers alone, no bool

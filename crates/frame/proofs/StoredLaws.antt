@@ -1,5 +1,5 @@
--- What is kept of a frame is stored as it was sent: `partial_of` of a frame's first bytes is kept up
--- by each byte more. So a frame is complete at its last byte, and not before.
+-- What is kept of a frame is stored as it was sent: `partial_of` of a frame's first bytes is kept
+-- up by each byte more. So a frame is complete at its last byte, and not before.
 -- Assumes nothing.
 use mathlib.Core.Path.{◌≡◌, refl, sym, subst, ap, ap₂, ◌∙◌}
 use mathlib.Core.Bool.{Bool, true, false}
