@@ -139,16 +139,13 @@ module _ (op : ℤ → ℤ → ℤ) (bound : (x y : ℤ) → nat_abs (op x y) �
   bounded : nat_abs (op a b) ≤ 65536
   bounded = omega (arith, bound a b, nat_abs-le a f.sfits, nat_abs-le b g.sfits)
 
-  pub op_fits : SFits w32 (op (wide a) (wide b))
+  op_fits : SFits w32 (op (wide a) (wide b))
   op_fits = rw same (abs_fits (omega (arith, bounded)))
 
   -- what is known of a result that is the absolute value of what the machine computed
   module _ {r : ℕ} (e : r ≡ nat_abs (to_z w32 (of_z w32 (op (wide a) (wide b))))) where
     pub op_is : r ≡ nat_abs (op a b)
     op_is = e ∙ ap nat_abs (to_z-of_z op_fits ∙ same)
-
-    pub op_small : r ≤ 65536
-    op_small = omega (arith, op_is, bounded)
 
 -- ---- on a curve
 

@@ -35,7 +35,7 @@ use Rattle.state.specs.declared.State.{State}
 use Rattle.state.proofs.RecordProved.{stop_right, accepted_exactly, accepted_stays}
 use Rattle.board.specs.Outcome.{Outcome, gives}
 use Rattle.board.specs.Judge.{judge_of}
-use Rattle.board.specs.Calls.{fed_of, byte_of, Performed, feed, run_of, Call, byte, run, Board, perform, after_by, after, bytes_in, bytes_by, bytes_read, Reading, reading, outcome_at, readings_of, readings_in, readings, numbers, idle}
+use Rattle.board.specs.Calls.{fed_of, byte_of, Performed, feed, run_of, Call, run, Board, perform, after_by, after, bytes_in, bytes_by, bytes_read, Reading, reading, outcome_at, readings_of, readings_in, readings, numbers, idle}
 use Rattle.board.specs.Shown.{does_nothing, first_byte_only}
 use Rattle.board.specs.Demand3.{no_reading, last_number, CountsAgree, IdleFacts, RunOf128s, All128, EndsIdle, longest, calls128, Demand3}
 use Rattle.board.proofs.JudgeLaws.{judge_illegal, judge_start}

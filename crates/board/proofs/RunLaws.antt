@@ -14,10 +14,14 @@ use borrow.Author.Tests.{ne_eqb, eqb-true}
 use Rattle.wire.specs.Lists.{snoc}
 use Rattle.wire.proofs.BoolLaws.{is_true, cond-true, cond-false, le_or_lt}
 use Rattle.wire.proofs.ListsLaws.{drop_next}
-use Rattle.wire.specs.declared.Sent.{Sent}
-use Rattle.frame.specs.Push.{Pushed, push_of, empty_partial, next_of}
-use Rattle.frame.specs.Absorb.{absorb_of, Waits, Steps}
-use Rattle.frame.specs.declared.Absorbed.{Absorbed}
+use Rattle.std.specs.Prelude.{Result, Ok, Err, is_ok}
+use Rattle.wire.specs.Replies.{Sent, told}
+use Rattle.wire.specs.declared.Refusal.{Refusal}
+use Rattle.frame.specs.Push.{Pushed, push_of, pushed_as, empty_partial, next_of}
+use Rattle.frame.specs.Absorb.{Absorbed, counted, absorb_of, taken_as, Waits, Steps}
+use Rattle.frame.specs.declared.Frame.{Frame}
+use Rattle.frame.specs.declared.Frame.TheVariants as left
+use Rattle.frame.specs.declared.Taken.{Taken}
 use Rattle.frame.specs.declared.Partial.{Partial}
 use Rattle.frame.proofs.PushLaws.{next_more}
 use Rattle.frame.proofs.AbsorbLaws.{taken_at_once}
@@ -26,25 +30,30 @@ use Rattle.command.specs.declared.Message.{Message}
 use Rattle.state.specs.State.{with_partial}
 use Rattle.state.specs.Accepted.{accepted_of}
 use Rattle.state.specs.declared.State.{State}
-use Rattle.board.specs.Outcome.{Outcome, gives, answered, sent_as, written}
+use Rattle.board.specs.Outcome.{Outcome, gives, Told, told_answer, answered, sent_as, written}
 use Rattle.board.specs.Judge.{effect_in, judge_of}
-use Rattle.board.specs.Calls.{byte_of, Performed, performed, read_by, later, feed, run_of, ran_as}
-use Rattle.board.specs.declared.Ran.{Ran}
+use Rattle.board.specs.declared.Answer.{Answer}
+use Rattle.board.specs.Calls.{byte_of, Performed, performed, read_by, later, feed, run_of, ToldRun, told_run, ran_as}
 use Rattle.board.proofs.JudgeLaws.{judge_small, judge_refused, held_refused, held_done}
-use Rattle.board.proofs.OutcomeLaws.{Met, nothing_written, MetSent, sent_number}
+use Rattle.board.proofs.OutcomeLaws.{Met, nothing_written, MetSent, sent_number, number_above}
 use Rattle.board.proofs.CallsLaws.{accepted_reachable, takes_accepted, message_of, judged_at, byte_bad, byte_waits, byte_judged, byte_nine}
 
 -- ---- what comes back
 
 -- both equations of the run's contract
-abbrev pub RanMet : Performed → Ran → List ℕ → List ℕ → Type 0
+abbrev pub RanMet : Performed → ToldRun → List ℕ → List ℕ → Type 0
 RanMet x r d d' = (r ≡ ran_as x) × (d' ≡ written x.outcome d)
 
-pub ran_met : {x y : Performed} {r : Ran} (d : List ℕ) {d' : List ℕ} → x ≡ y → RanMet y r d d' → RanMet x r d d'
+pub ran_met : {x y : Performed} {r : ToldRun} (d : List ℕ) {d' : List ℕ} → x ≡ y → RanMet y r d d' → RanMet x r d d'
 ran_met d e m = (m.0 ∙ ap ran_as (sym e), m.1 ∙ ap (λ (x : Performed). written x.outcome d) (sym e))
 
+-- an answer with nothing written, beside the bytes that were read
+pub ran_told : (a : Answer) (n : ℕ) (s : State) (k : ℕ) → told_answer a ≡ answered (gives n s) → told_run (record { answer = a; read = k }) ≡ ran_as (performed (gives n s) k)
+unfolding answered ran_as
+ran_told a n s k e = ap (λ (t : Told). record { number = t.number; length = t.length; state = t.state; read = k }) e
+
 -- a run that ends with nothing written
-pub ran_gives : {x : Performed} {r : Ran} {n : ℕ} {s : State} {k : ℕ} (d : List ℕ) → x ≡ performed (gives n s) k → r ≡ ran_as (performed (gives n s) k) → RanMet x r d d
+pub ran_gives : {x : Performed} {r : ToldRun} {n : ℕ} {s : State} {k : ℕ} (d : List ℕ) → x ≡ performed (gives n s) k → r ≡ ran_as (performed (gives n s) k) → RanMet x r d d
 ran_gives {n = n} {s = s} d e g = ran_met d e (g, nothing_written n s d)
 
 -- ---- a whole frame: its command is judged at the record with the frame still held, and what it
@@ -57,7 +66,16 @@ sent_of s image {m' = m'} {d = d} {d' = d'} {sent = sent} e f x =
     subst (λ (l : List ℕ). MetSent (judge_of s m' image (length l)) sent l d') f
     (subst (λ (y : Message). MetSent (judge_of s y image (length d)) sent d d') e x)
 
-module _ (s : State) (m : Message) (image d : List ℕ) {d' : List ℕ} {sent : Sent} (k : ℕ) (e : MetSent (judge_of s m image (length d)) sent d d') where
+-- a refusal has a number above 0 and no length
+refused_as : (sent : Result ℕ Refusal) → is_ok sent ≡ false → ((told sent).number ≡ 0 → ⊥) × ((told sent).length ≡ 0)
+refused_as (Ok n) e = absurd (subst T e tt)
+refused_as (Err r) e = (number_above r, refl)
+
+done_as : (sent : Result ℕ Refusal) → is_ok sent ≡ true → (told sent).number ≡ 0
+done_as (Ok n) e = refl
+done_as (Err r) e = absurd (subst T (sym e) tt)
+
+module _ (s : State) (m : Message) (image d : List ℕ) {d' : List ℕ} (sent : Result ℕ Refusal) (k : ℕ) (e : MetSent (judge_of s m image (length d)) (told sent) d d') where
   abbrev given : Outcome
   given = judge_of s m image (length d)
 
@@ -67,26 +85,40 @@ module _ (s : State) (m : Message) (image d : List ℕ) {d' : List ℕ} {sent : 
   abbrev judged : Performed
   judged = performed (judge_of past m image (length d)) k
 
-  pub ran_refused : {r : Ran} → (sent.number ≡ 0 → ⊥) → r ≡ ran_as (performed (gives sent.number past) k) → RanMet judged r d d'
+  pub ran_refused : {t : State} → is_ok sent ≡ false → t ≡ past
+      → RanMet judged (told_run (record { answer = record { state = t; sent = sent }; read = k })) d d'
+  unfolding ran_as
   ran_refused h f =
       let n = given.number in
-      let some : n ≡ 0 → ⊥ = λ x. h (sent_number given e.0 ∙ x) in
+      let r = refused_as sent h in
+      let some : n ≡ 0 → ⊥ = λ x. r.0 (sent_number given e.0 ∙ x) in
       let none : d' ≡ d = e.1 ∙ ap (λ (x : Outcome). written x d) (judge_refused s m image (length d) some) ∙ sym (nothing_written n s d) in
       ran_met d (ap (λ (x : Outcome). performed x k) (held_refused s m image (length d) empty_partial some))
-      (f ∙ ap (λ (x : ℕ). ran_as (performed (gives x past) k)) (sent_number given e.0), none ∙ nothing_written n past d)
+      (λ i. record { number = sent_number given e.0 i; length = r.1 i; state = f i; read = k }, none ∙ nothing_written n past d)
 
-  pub ran_done : {t : State} → sent.number ≡ 0 → t ≡ (effect_in m).sets past
-      → RanMet judged (record { number = 0; length = sent.length; state = t; read = k }) d d'
+  pub ran_done : {t : State} → is_ok sent ≡ true → t ≡ (effect_in m).sets past
+      → RanMet judged (told_run (record { answer = record { state = t; sent = sent }; read = k })) d d'
   unfolding ran_as sent_as written
-  ran_done z f =
+  ran_done h f =
+      let z = done_as sent h in
       ran_met d (ap (λ (x : Outcome). performed x k) (held_done s m image (length d) empty_partial (sym (sent_number given e.0) ∙ z)))
-      (ap₂ (λ (x : ℕ) (u : State). record { number = 0; length = x; state = u; read = k }) (ap (λ (x : Sent). x.length) e.0) f, e.1)
+      (λ i. record { number = z i; length = ap (λ (x : Sent). x.length) e.0 i; state = f i; read = k }, e.1)
 
 -- ---- the loop
 
 -- what is left of a slice, as the code lends it
-pub rest_is : (l : List ℕ) (n : ℕ) → take (length l - n) (drop n l) ≡ drop n l
+rest_is : (l : List ℕ) (n : ℕ) → take (length l - n) (drop n l) ≡ drop n l
 rest_is l n = ap (λ (k : ℕ). take k (drop n l)) (sym (length-drop n l)) ∙ take-length (drop n l)
+
+pub rest_taken : (p : Partial) (l : List ℕ) (n : ℕ) {t : Absorbed} → t ≡ absorb_of p (take (length l - n) (drop n l)) → t ≡ absorb_of p (drop n l)
+rest_taken p l n e = e ∙ ap (absorb_of p) (rest_is l n)
+
+-- what a frame takes, as the code tells it: it waits, or it is whole
+pub waits_as : {t : Taken} {p : Partial} {x : Absorbed} → taken_as t ≡ x → t.frame ≡ left.Waits p → record { partial = p; complete = false; count = t.count } ≡ x
+waits_as {t = t} e f = ap (λ (g : Frame). counted (pushed_as g) t.count) (sym f) ∙ e
+
+pub whole_as : {t : Taken} {p : Partial} {x : Absorbed} → taken_as t ≡ x → t.frame ≡ left.Whole p → record { partial = p; complete = true; count = t.count } ≡ x
+whole_as {t = t} e f = ap (λ (g : Frame). counted (pushed_as g) t.count) (sym f) ∙ e
 
 module _ (s : State) (bytes image : List ℕ) (room : ℕ) where
   -- after n bytes of the slice, with this partial frame
@@ -212,8 +244,8 @@ module _ (s : State) (bytes image : List ℕ) (room : ℕ) where
       ends : push_of steps.before (get_or bytes (n + length steps.front) 0) ≡ record { partial = absorbed.partial; complete = absorbed.complete }
       ends = ap (push_of steps.before) ahead.is ∙ steps.ends
 
-      counted : n + length steps.front + 1 ≡ n + absorbed.count
-      counted =
+      ends_at : n + length steps.front + 1 ≡ n + absorbed.count
+      ends_at =
           let e = sym (length-take-le absorbed.count (drop n bytes) (taken_at_once.some p (drop n bytes) there).1) ∙ ap length steps.taken
           ∙ length-append steps.front (steps.last ∷ []) in
           omega arith
@@ -228,7 +260,7 @@ module _ (s : State) (bytes image : List ℕ) (room : ℕ) where
       absorbed_on e =
           let f = ap (λ (x : Pushed). x.complete) ends ∙ e in
           let on = going_on ahead.going ahead.more (small (n + length steps.front)) f in
-          subst (Going absorbed.partial) counted (subst (λ (x : Partial). Going x (n + length steps.front + 1)) (ap (λ (x : Pushed). x.partial) ends) on)
+          subst (Going absorbed.partial) ends_at (subst (λ (x : Partial). Going x (n + length steps.front + 1)) (ap (λ (x : Pushed). x.partial) ends) on)
 
       pub absorbed_done : absorbed.complete ≡ true
           → run_of s bytes image room
@@ -236,7 +268,7 @@ module _ (s : State) (bytes image : List ℕ) (room : ℕ) where
       absorbed_done e =
           let o = judge_of (with_partial empty_partial s) in
           going_done ahead.going ahead.more (ap (λ (x : Pushed). x.complete) ends ∙ e)
-          ∙ ap₂ (λ (x : Pushed) (k : ℕ). performed (o (decode_of x.partial.bytes) image room) k) ends counted
+          ∙ ap₂ (λ (x : Pushed) (k : ℕ). performed (o (decode_of x.partial.bytes) image room) k) ends ends_at
 
 -- ---- a run over one byte is that byte
 
@@ -259,9 +291,9 @@ module _ (s : State) (b : ℕ) (image : List ℕ) (room : ℕ) where
       go false e = sym (byte_bad s b image room e)
 
 -- so both equations of a byte's contract are those of the run's
-pub byte_met : (s : State) (b : ℕ) (image d : List ℕ) {d' : List ℕ} {r : Ran} → RanMet (run_of s (b ∷ []) image (length d)) r d d'
+pub byte_met : (s : State) (b : ℕ) (image d : List ℕ) {d' : List ℕ} {r : ToldRun} → RanMet (run_of s (b ∷ []) image (length d)) r d d'
     → Met (byte_of s b image (length d)) (record { number = r.number; length = r.length; state = r.state }) d d'
 unfolding answered ran_as
 byte_met s b image d e =
     let f = run_over_one s b image (length d) in
-    (ap (λ (x : Ran). record { number = x.number; length = x.length; state = x.state }) e.0 ∙ ap answered f, e.1 ∙ ap (λ (o : Outcome). written o d) f)
+    (ap (λ (x : ToldRun). record { number = x.number; length = x.length; state = x.state }) e.0 ∙ ap answered f, e.1 ∙ ap (λ (o : Outcome). written o d) f)

@@ -12,7 +12,7 @@ use Rattle.state.specs.Accepted.{accepted_of}
 use Rattle.state.specs.declared.Motors.{Motors}
 use Rattle.state.specs.declared.Stream.{Stream}
 use Rattle.state.specs.declared.State.{State}
-use Rattle.board.specs.Outcome.{Outcome, gives, fitted}
+use Rattle.board.specs.Outcome.{Outcome, gives, fitted, told_answer}
 use Rattle.board.specs.Judge.{status_of, judge_of}
 use Rattle.board.specs.declared.Ran.{Ran}
 
@@ -119,8 +119,20 @@ feed s (b ∷ bs) image room =
 unfoldable pub run_of : State → List ℕ → List ℕ → ℕ → Performed
 run_of s bs image room = cond (accepted_of s) (feed s bs image room) (reads_none (gives 8 s))
 
+-- what an answer tells, and how many bytes were read
+pub record ToldRun : Type 0 where
+  pub number : ℕ
+  pub length : ℕ
+  pub state : State
+  pub read : ℕ
+
+abbrev pub told_run : Ran → ToldRun
+told_run r =
+    let a = told_answer r.answer in
+    record { number = a.number; length = a.length; state = a.state; read = r.read }
+
 -- what comes back
-unfoldable pub ran_as : Performed → Ran
+unfoldable pub ran_as : Performed → ToldRun
 ran_as p = record { number = p.outcome.number; length = length p.outcome.answer; state = p.outcome.state; read = p.read }
 
 -- ---- lists of calls

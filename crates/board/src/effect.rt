@@ -30,9 +30,8 @@ fn with_drivers(state: State, bits: u8) -> State
 pub fn effect(state: State, message: Message) -> State
     ensures { result ≡ (effect_in message).sets state }
 {
-    let command = message.command;
     let payload = message.payload;
-    match command {
+    match message.command {
         Command::Start => state::to_passive(state),
         Command::Baud(code) => state::to_passive(state::with_baud(state, code)),
         Command::Control => state::with_mode(state, command::SAFE),

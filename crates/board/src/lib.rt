@@ -1,5 +1,5 @@
-// The board: five calls on a state record, which goes in by value and comes back by value with one
-// of the numbers of docs/RULES.md N0 to N9.
+// The board: five calls on a state record, which goes in by value and comes back by value, beside
+// the length of what was written or one of the refusals of docs/RULES.md N1 to N9.
 //
 //     byte             one byte; the last of a frame has its command judged (C1)
 //     run              the bytes of a slice, up to the first that does not wait (U1 to U5)
@@ -8,7 +8,7 @@
 //     song_end         the song that plays has ended (S12)
 //
 //     8 bad record, 9 waiting, then 1 unknown, 2 not offered, 3 wrong mode, 4 data, 5 no song,
-//     6 busy, 7 no room, and else 0 done
+//     6 busy, 7 no room, and else done
 //
 // Proved (specs/Demand1.antt, Demand2.antt, Demand3.antt): for any record, bytes, report and buffer
 // there is an answer, and a refusal changes nothing but the frame it reads past and writes nothing;
@@ -19,244 +19,203 @@
 
 mod effect;
 
-ghost use Rattle.std.specs.Prelude.{◌≡◌, true, cond, ◌&&◌, [], ◌∷◌, ◌<◌, pos, length, drop};
+ghost use Rattle.std.specs.Prelude.{◌≡◌, true, ◌&&◌, ◌<◌, pos, length, drop};
 ghost use Rattle.std.specs.Int.Signed.{lt_z};
 ghost use Rattle.wire.specs.Sixteen.{minus};
-ghost use Rattle.wire.specs.Replies.{wrote, sent_of};
+ghost use Rattle.wire.specs.Replies.{told};
 ghost use Rattle.command.specs.Layout.{refusal_of};
 ghost use Rattle.command.specs.CommandTable.{legal_of};
 ghost use Rattle.state.specs.State.{song_at};
 ghost use Rattle.state.specs.Accepted.{is_set};
-ghost use Rattle.board.specs.Outcome.{gives, answered, sent_as, written};
+ghost use Rattle.board.specs.Outcome.{number_in, told_answer, answered, sent_as, written};
 ghost use Rattle.board.specs.Judge.{status_of, rules, judged_by, judge_of};
-ghost use Rattle.board.specs.Calls.{byte_of, backs_round, into_cliff, stops_for, report_of, tick_of, song_end_of, performed, run_of, ran_as};
+ghost use Rattle.board.specs.Calls.{byte_of, backs_round, into_cliff, stops_for, report_of, tick_of, song_end_of, run_of, told_run, ran_as};
 
 use command::{Command, Message};
 use effect::effect;
+use frame::Frame;
 use packet::Status;
 use state::{Motors, Songs, State};
-use wire::Sent;
+use wire::Refusal;
 
-// The numbers given back, rules N0 to N9; 4 and 7 are wire's.
-const DONE: u8 = 0;
-
-const UNKNOWN: u8 = 1;
-
-const NOT_OFFERED: u8 = 2;
-
-const WRONG_MODE: u8 = 3;
-
-const NO_SONG: u8 = 5;
-
-const BUSY: u8 = 6;
-
-const BAD_RECORD: u8 = 8;
-
-const WAITING: u8 = 9;
-
-// What a call gives back: its number, the length of what it wrote at its buffer's start, and the
-// new record.
-#[repr(C)]
-#[derive(Clone, Copy)]
+// What a call gives back: the new record, and the length of what it wrote at its buffer's start, or
+// why it is refused. A refusal has a new record too: the frame is read past. Each call's contract
+// equates what it tells with a definition of its own, so that no two say the same. Record, image
+// and buffer go in one by one, as C lends them: a struct of the three would be made for each call.
+#[derive(Clone, Copy, Debug, PartialEq, Eq)]
 pub struct Answer {
-    pub number: u8,
-    pub length: usize,
     pub state: State,
+    pub sent: Result<usize, Refusal>,
 }
 
 // And a run, with how many bytes were read.
-#[repr(C)]
-#[derive(Clone, Copy)]
+#[derive(Clone, Copy, Debug, PartialEq, Eq)]
 pub struct Ran {
-    pub number: u8,
-    pub length: usize,
-    pub state: State,
+    pub answer: Answer,
     pub read: usize,
 }
 
-// Number and record, and nothing written.
-fn give(number: u8, state: State) -> Answer
-    ensures { result ≡ answered (gives number state) }
-{
-    Answer {
-        number,
-        length: 0,
-        state,
+impl Answer {
+    fn new(state: State, sent: Result<usize, Refusal>) -> Answer
+        ensures { result ≡ record { state = state; sent = sent } }
+    {
+        Answer { state, sent }
     }
 }
 
-// A number of a wheel order, and 0 where that order is not present.
-fn present(is: bool, v: i16) -> i16
-    ensures { result ≡ cond is v (pos 0) }
+// What packets 35 to 42 tell. A number of a wheel order is 0 where that order is not present.
+fn status_of(state: &State) -> Status
+    ensures { result ≡ status_of state.now }
 {
-    if is { v } else { 0 }
-}
-
-// What packets 35 to 42 tell.
-fn status_of(state: State) -> Status
-    ensures { result ≡ status_of state }
-{
-    let motors = state.motors;
-    let songs = state.songs;
-    let stream = state.stream;
-    let drives = motors.order == state::DRIVE;
-    let directs = motors.order == state::DIRECT;
+    let Motors {
+        order,
+        first,
+        second,
+        ..
+    } = state.motors;
+    let (velocity, radius) = if order == state::DRIVE {
+        (first, second)
+    } else {
+        (0, 0)
+    };
+    let (right, left) = if order == state::DIRECT {
+        (first, second)
+    } else {
+        (0, 0)
+    };
     Status {
         mode: state.mode,
-        selected: songs.selected,
-        playing: songs.playing,
-        listed: stream.count,
-        velocity: present(drives, motors.first),
-        radius: present(drives, motors.second),
-        right: present(directs, motors.first),
-        left: present(directs, motors.second),
+        selected: state.songs.selected,
+        playing: state.songs.playing,
+        listed: state.stream.count,
+        velocity,
+        radius,
+        right,
+        left,
     }
 }
 
-// The number by which a variant is refused as such; 0 for an offered command.
-fn refusal_of(command: Command) -> u8
-    ensures { result ≡ refusal_of command }
+// The variants that are refused as such.
+fn offered(command: Command) -> Result<(), Refusal>
+    ensures { number_in result ≡ refusal_of command }
 {
     match command {
-        Command::Unknown(_) => UNKNOWN,
-        Command::NotOffered(_) => NOT_OFFERED,
-        _ => DONE,
+        Command::Unknown(_) => Err(Refusal::Unknown),
+        Command::NotOffered(_) => Err(Refusal::NotOffered),
+        _ => Ok(()),
     }
 }
 
 // Whether a song of the table is set.
-fn is_set(songs: Songs, song: u8) -> bool
+fn is_set(songs: &Songs, song: u8) -> bool
     requires { song < 16 }
-    ensures { result ≡ is_set (song_at songs song) }
+    ensures { result ≡ is_set (song_at songs.now song) }
 {
-    let table = songs.table;
-    table[song as usize].len != 0
+    songs.table[usize::from(song)].len != 0
 }
 
-// Done, and nothing is written.
-fn done() -> Sent
-    ensures { result ≡ sent_of (wrote []) }
-{
-    Sent {
-        number: DONE,
-        length: 0,
-    }
-}
-
-// An offered command in one of its modes, with legal data: numbers 5 to 7 in their order, and else
+// An offered command in one of its modes, with legal data: refusals 5 to 7 in their order, and else
 // its answer. What it does to the record is effect's.
-fn carry_out(state: State, message: Message, image: &[u8; 40], buffer: &mut [u8]) -> Sent
+fn carry_out(
+    state: &State,
+    message: Message,
+    image: &[u8; 40],
+    buffer: &mut [u8],
+) -> Result<usize, Refusal>
     requires { legal_of message ≡ true }
-    ensures { (result ≡ sent_as (judged_by (drop 4 (rules state message image.now (length buffer.old))) state message image.now))
-        × (buffer.new ≡ written (judged_by (drop 4 (rules state message image.now (length buffer.old))) state message image.now) buffer.old) }
+    ensures { (told result ≡ sent_as (judged_by (drop 4 (rules state.now message image.now (length buffer.old))) state.now message image.now))
+        × (buffer.new ≡ written (judged_by (drop 4 (rules state.now message image.now (length buffer.old))) state.now message image.now) buffer.old) }
 {
-    let command = message.command;
-    let payload = message.payload;
-    match command {
+    match message.command {
         Command::Play(song) => {
-            let songs = state.songs;
-            if !is_set(songs, song) {
-                return wire::refuse(NO_SONG);
+            if !is_set(&state.songs, song) {
+                return Err(Refusal::NoSong);
             }
-            if songs.playing == state::YES {
-                return wire::refuse(BUSY);
+            if state.songs.playing == state::YES {
+                return Err(Refusal::Busy);
             }
-            done()
+            Ok(0)
         }
-        Command::Sensors(id) => {
-            let one = [id];
-            packet::answer(&one, status_of(state), image, buffer)
-        }
+        Command::Sensors(id) => packet::answer(&[id], status_of(state), image, buffer),
         Command::QueryList(ids) => {
-            packet::answer(&payload[0..ids as usize], status_of(state), image, buffer)
+            let ids = &message.payload[..usize::from(ids)];
+            packet::answer(ids, status_of(state), image, buffer)
         }
-        _ => done(),
+        _ => Ok(0),
     }
 }
 
-// What a command gets back when its last byte comes: the numbers 1 to 7 in their order, and else
-// its answer.
-fn judge(state: State, message: Message, image: &[u8; 40], buffer: &mut [u8]) -> Sent
-    ensures { (result ≡ sent_as (judge_of state message image.now (length buffer.old)))
-        × (buffer.new ≡ written (judge_of state message image.now (length buffer.old)) buffer.old) }
+// What a command gets back when its last byte comes: refusals 1 to 7 in their order, and else its
+// answer.
+fn judge(
+    state: &State,
+    message: Message,
+    image: &[u8; 40],
+    buffer: &mut [u8],
+) -> Result<usize, Refusal>
+    ensures { (told result ≡ sent_as (judge_of state.now message image.now (length buffer.old)))
+        × (buffer.new ≡ written (judge_of state.now message image.now (length buffer.old)) buffer.old) }
 {
-    let command = message.command;
-    let refused = refusal_of(command);
-    if refused != DONE {
-        return wire::refuse(refused);
-    }
-    if !command::allowed(command, state.mode) {
-        return wire::refuse(WRONG_MODE);
+    offered(message.command)?;
+    if !command::allowed(message.command, state.mode) {
+        return Err(Refusal::WrongMode);
     }
     if !command::legal(message) {
-        return wire::refuse(wire::NOT_LEGAL);
+        return Err(Refusal::NotLegal);
     }
     carry_out(state, message, image, buffer)
 }
 
-// A run that ends with nothing written.
-fn ended(number: u8, state: State, read: usize) -> Ran
-    ensures { result ≡ ran_as (performed (gives number state) read) }
-{
-    Ran {
-        number,
-        length: 0,
-        state,
-        read,
-    }
-}
-
 // The bytes of a slice, up to the first that does not wait (rule U1). The record is checked once,
 // and a frame's data bytes are taken together: before the run's end only the partial frame changes.
+// What becomes of a whole frame stands here and in no function of its own, and each way out makes
+// its own answer: either form cost a copy of the whole record more in each run.
 pub fn run(state: State, bytes: &[u8], image: &[u8; 40], buffer: &mut [u8]) -> Ran
-    ensures { (result ≡ ran_as (run_of state bytes.now image.now (length buffer.old)))
+    ensures { (told_run result ≡ ran_as (run_of state bytes.now image.now (length buffer.old)))
         × (buffer.new ≡ written (run_of state bytes.now image.now (length buffer.old)).outcome buffer.old) }
 {
     if !state::accepts(state) {
-        return ended(BAD_RECORD, state, 0);
+        return Ran {
+            answer: Answer::new(state, Err(Refusal::BadRecord)),
+            read: 0,
+        };
     }
     let mut partial = state.partial;
     let mut read = 0;
+    // A turn takes as many bytes as surely belong to one frame. It ends by a break (rule Q1).
     let ran = loop {
         if read == bytes.len() {
-            break ended(WAITING, state::with_partial(state, partial), read);
+            let answer = Answer::new(state::with_partial(state, partial), Err(Refusal::Waiting));
+            break Ran { answer, read };
         }
-        let absorbed = frame::absorb(partial, &bytes[read..]);
-        read += absorbed.count;
-        if absorbed.complete {
-            let whole = absorbed.partial;
-            let held = whole.bytes;
-            let message = command::decode(held);
-            let sent = judge(state, message, image, buffer);
-            let cleared = state::with_partial(state, frame::empty());
-            if sent.number != DONE {
-                break ended(sent.number, cleared, read);
+        let taken = frame::absorb(partial, &bytes[read..]);
+        read += taken.count;
+        match taken.frame {
+            Frame::Waits(next) => partial = next,
+            Frame::Whole(whole) => {
+                let message = command::decode(whole.bytes);
+                let sent = judge(&state, message, image, buffer);
+                let cleared = state::with_partial(state, frame::empty());
+                if sent.is_err() {
+                    let state = cleared;
+                    let answer = Answer { state, sent };
+                    break Ran { answer, read };
+                }
+                let state = effect(cleared, message);
+                let answer = Answer { state, sent };
+                break Ran { answer, read };
             }
-            break Ran {
-                number: DONE,
-                length: sent.length,
-                state: effect(cleared, message),
-                read,
-            };
         }
-        partial = absorbed.partial;
     };
     ran
 }
 
 // One byte: a run over it.
 pub fn byte(state: State, b: u8, image: &[u8; 40], buffer: &mut [u8]) -> Answer
-    ensures { (result ≡ answered (byte_of state b image.now (length buffer.old)))
+    ensures { (told_answer result ≡ answered (byte_of state b image.now (length buffer.old)))
         × (buffer.new ≡ written (byte_of state b image.now (length buffer.old)) buffer.old) }
 {
-    let one = [b];
-    let ran = run(state, &one, image, buffer);
-    let next = ran.state;
-    Answer {
-        number: ran.number,
-        length: ran.length,
-        state: next,
-    }
+    run(state, &[b], image, buffer).answer
 }
 
 // Backwards on a tight curve (rule S5).
@@ -275,11 +234,9 @@ fn backs_round(right: i16, left: i16) -> bool
     if right > 0 || left > 0 {
         return false;
     }
-    let r = right as i32;
-    let l = left as i32;
-    let sum = wire::magnitude(r + l);
-    let difference = wire::magnitude(r - l);
-    129 * sum < 165 * difference
+    let r = i32::from(right);
+    let l = i32::from(left);
+    129 * (r + l).unsigned_abs() < 165 * (r - l).unsigned_abs()
 }
 
 // Whether the base moves into a cliff (rules S4 to S7); of a Drive the two numbers are velocity and
@@ -287,77 +244,63 @@ fn backs_round(right: i16, left: i16) -> bool
 fn into_cliff(motors: Motors) -> bool
     ensures { result ≡ into_cliff motors }
 {
-    let order = motors.order;
-    let first = motors.first;
-    let second = motors.second;
-    if order == state::DRIVE {
-        return first > 0 || backs_tightly(first, second);
+    let Motors { first, second, .. } = motors;
+    match motors.order {
+        state::DRIVE => first > 0 || backs_tightly(first, second),
+        state::DIRECT => first > 0 || second > 0 || backs_round(first, second),
+        _ => false,
     }
-    order == state::DIRECT && (first > 0 || (second > 0 || backs_round(first, second)))
 }
 
 // Whether a report stops the base, were it in Safe.
 fn stops_for(motors: Motors, drop: bool, cliff: bool, charger: bool) -> bool
     ensures { result ≡ stops_for motors drop cliff charger }
 {
-    drop || (charger || (cliff && into_cliff(motors)))
+    drop || charger || (cliff && into_cliff(motors))
 }
 
-// A safety report: wheel drop, cliff, powered charger. It stops the base in Safe alone, and never
-// touches a half-read frame.
+// A safety report: wheel drop, cliff, powered charger, one by one, as C hands them in. It stops the
+// base in Safe alone, and never touches a half-read frame.
 pub fn safety_report(state: State, drop: bool, cliff: bool, charger: bool) -> Answer
-    ensures { result ≡ answered (report_of state drop cliff charger) }
+    ensures { told_answer result ≡ answered (report_of state drop cliff charger) }
 {
     if !state::accepts(state) {
-        return give(BAD_RECORD, state);
+        return Answer::new(state, Err(Refusal::BadRecord));
     }
-    let motors = state.motors;
-    if state.mode == command::SAFE && stops_for(motors, drop, cliff, charger) {
-        return give(DONE, state::to_passive(state));
+    if state.mode == command::SAFE && stops_for(state.motors, drop, cliff, charger) {
+        return Answer::new(state::to_passive(state), Ok(0));
     }
-    give(DONE, state)
+    Answer::new(state, Ok(0))
 }
 
 // A tick: the chunk of the stream list, where there is one to write.
 pub fn tick(state: State, image: &[u8; 40], buffer: &mut [u8]) -> Answer
-    ensures { (result ≡ answered (tick_of state image.now (length buffer.old)))
+    ensures { (told_answer result ≡ answered (tick_of state image.now (length buffer.old)))
         × (buffer.new ≡ written (tick_of state image.now (length buffer.old)) buffer.old) }
 {
     if !state::accepts(state) {
-        return give(BAD_RECORD, state);
+        return Answer::new(state, Err(Refusal::BadRecord));
     }
     if state.mode == command::OFF {
-        return give(WRONG_MODE, state);
+        return Answer::new(state, Err(Refusal::WrongMode));
     }
     let stream = state.stream;
-    if stream.on != state::YES {
-        return give(DONE, state);
+    if stream.on != state::YES || stream.count == 0 {
+        return Answer::new(state, Ok(0));
     }
-    if stream.count == 0 {
-        return give(DONE, state);
-    }
-    let ids = stream.ids;
-    let sent = packet::chunk(
-        &ids[0..stream.count as usize],
-        status_of(state),
-        image,
-        buffer,
-    );
-    Answer {
-        number: sent.number,
-        length: sent.length,
-        state,
-    }
+    let ids = &stream.ids[..usize::from(stream.count)];
+    let sent = packet::chunk(ids, status_of(&state), image, buffer);
+    Answer { state, sent }
 }
 
 // A song end (rule S12).
 pub fn song_end(state: State) -> Answer
-    ensures { result ≡ answered (song_end_of state) }
+    ensures { told_answer result ≡ answered (song_end_of state) }
 {
     if !state::accepts(state) {
-        return give(BAD_RECORD, state);
+        return Answer::new(state, Err(Refusal::BadRecord));
     }
     let mut songs = state.songs;
     songs.playing = state::NO;
-    give(DONE, state::with_songs(state, songs))
+    Answer::new(state::with_songs(state, songs), Ok(0))
 }

@@ -1,222 +1,275 @@
-// What a line gives, written behind it, and how much of it differs from what is expected.
+// What each kind of line says, what it gives, written behind it, and whether that differs from what
+// it expects.
 use crate::fields::Fields;
-use crate::give::{Given, give};
-use crate::row::Row;
+use crate::give::{Call, Flags, ROOM, give, give_writer};
+use crate::row::Cells;
 use crate::session::Session;
-use crate::{fields, session};
+use command::Message;
 use state::State;
-use terminal::{Out, bits, plus, say_bytes, say_form, wide, within};
+use std::fmt;
+use std::fmt::Write as _;
+use terminal::{Listed, Out, Told, say};
+use wire::Refusal;
 
-// 1 where two numbers differ.
-pub fn differ(a: usize, b: usize) -> usize {
-    if a == b { 0 } else { 1 }
-}
+// As many 128s as any held frame owes.
+const ENOUGH: [u8; 512] = [128; 512];
 
-fn differ_in(a: State, b: State) -> usize {
-    if state::same(a, b) { 0 } else { 1 }
-}
+// A record by its mode, its wheel order with two numbers, and its duties. A mode or an order that
+// is none has no name.
+#[derive(Clone, Copy)]
+struct Shown<'a>(&'a State);
 
-// The number, the bytes read, the answer; and bytes behind it that were 0 still are.
-fn differ_from(back: Fields, given: Given) -> usize {
-    let wanted = back.bytes;
-    let buffer = given.buffer;
-    let wrote = if wire::same(&wanted, &buffer) { 0 } else { 1 };
-    let number = differ(given.number, back.number);
-    let read = differ(given.read, back.read);
-    let length = differ(given.length, back.count);
-    plus(plus(number, read), plus(length, wrote))
-}
-
-// What came back, in the words of the cell that expects it.
-fn say_given(out: &Out, given: Given) {
-    let buffer = given.buffer;
-    let n = within(given.length, &buffer);
-    let read = differ(given.read, 0);
-    say_form(
-        out,
-        b" -> %0[1 | read %2][3 | wrote ]",
-        [given.number, read, given.read, differ(n, 0), 0, 0, 0, 0],
-    );
-    say_bytes(out, &buffer[0..n]);
-}
-
-// A record's mode, its wheel order with two numbers, and its duties.
-fn say_record(out: &Out, state: State) {
-    let motors = state.motors;
-    let duties = motors.duties;
-    say_form(
-        out,
-        b" -> [0 Off|Passive|Safe|Full], [1 none|Drive|Direct] ~2 ~3, ",
-        [
-            wide(state.mode),
-            wide(motors.order),
-            bits(motors.first),
-            bits(motors.second),
-            0,
-            0,
-            0,
-            0,
-        ],
-    );
-    say_bytes(out, &duties);
-}
-
-// case START | CALL | BACK | START | RULE: a call from the row's record.
-pub fn case(out: &Out, row: Row, call: Fields) -> usize {
-    let before = row.before;
-    let given = give(call, before);
-    let after = given.state;
-    let wanted = row.after;
-    let back = row.back;
-    say_given(out, given);
-    say_record(out, after);
-    plus(differ_from(back, given), differ_in(after, wanted))
+impl fmt::Display for Shown<'_> {
+    fn fmt<W: fmt::Write>(&self, f: &mut fmt::Formatter<W>) -> fmt::Result {
+        let motors = self.0.motors;
+        let mode = match self.0.mode {
+            0 => "Off",
+            1 => "Passive",
+            2 => "Safe",
+            3 => "Full",
+            _ => "",
+        };
+        let order = match motors.order {
+            state::NO_ORDER => "none",
+            state::DRIVE => "Drive",
+            state::DIRECT => "Direct",
+            _ => "",
+        };
+        let (first, second) = (motors.first, motors.second);
+        let duties = Listed::new(&motors.duties);
+        write!(f, "{mode}, {order} {first} {second}, {duties}")
+    }
 }
 
 // record NAME START | START
-pub fn named(out: &Out, row: Row) -> usize {
-    let state = row.before;
-    let wanted = row.after;
-    say_record(out, state);
-    differ_in(state, wanted)
+#[derive(Clone, Copy)]
+pub struct Named<'a> {
+    pub name: &'a [u8],
+    pub state: State,
+    pub same: State,
 }
 
-// What the writer gives.
-fn written(row: Row) -> Given {
-    let mut buffer = [0u8; 512];
-    let message = row.message;
-    let state = row.before;
-    let sent = command::write(message, &mut buffer);
-    Given {
-        number: wide(sent.number),
-        read: 0,
-        length: sent.length,
-        buffer,
-        state,
+impl<'a> Named<'a> {
+    pub fn read_from(out: &mut Out, cells: &mut Cells<'a, '_>) -> Result<Named<'a>, Told> {
+        let (name, state) = cells.named(out)?;
+        let same = cells.after(out, state)?;
+        Ok(Named { name, state, same })
+    }
+
+    pub fn differs(&self, out: &mut Out) -> bool {
+        say!(out, " -> {}", Shown(&self.state));
+        self.state != self.same
+    }
+}
+
+// frame BYTES | DATA | NUMBERS | RULE: from the first four records, in Off, Passive, Safe and Full.
+#[derive(Drop)]
+pub struct Frame {
+    call: Fields,
+    count: Fields,
+    numbers: Fields,
+}
+
+impl Frame {
+    pub fn read_from(out: &mut Out, cells: &mut Cells<'_, '_>) -> Result<Frame, Told> {
+        Ok(Frame {
+            call: cells.call(out)?,
+            count: cells.back(out)?,
+            numbers: cells.call(out)?,
+        })
+    }
+
+    pub fn differs(&self, out: &mut Out, session: &Session) -> bool {
+        let numbers = self.numbers.bytes.as_slice();
+        let mut differs = false;
+        for i in 0..4 {
+            let number = numbers.get(i).copied().unwrap_or(0);
+            differs |= self.cut(out, session.record_at(i), number);
+        }
+        differs
+    }
+
+    // The bytes of a frame, and 128s, from a record: the opcode and its data are read, with the
+    // number expected, and nothing is held after them.
+    fn cut(&self, out: &mut Out, state: State, number: u8) -> bool {
+        let mut given = give(state, self.call.call(), self.call.room);
+        let mut read = given.read;
+        if given.sent == Err(Refusal::Waiting) {
+            given = give(given.state, Call::Run(&ENOUGH), ROOM);
+            read = read.wrapping_add(given.read);
+        }
+        say!(out, " -> {} read {read}", given.number());
+        let wanted = self.count.number.wrapping_add(1);
+        read != wanted || given.number() != number || given.state.partial.count != 0
+    }
+}
+
+// case START | CALL | BACK | START | RULE: a call from the row's record.
+#[derive(Drop)]
+pub struct Case {
+    before: State,
+    call: Fields,
+    back: Fields,
+    pub after: State,
+}
+
+impl Case {
+    pub fn read_from(out: &mut Out, cells: &mut Cells<'_, '_>) -> Result<Case, Told> {
+        let before = cells.start(out)?;
+        Ok(Case {
+            before,
+            call: cells.call(out)?,
+            back: cells.back(out)?,
+            after: cells.after(out, before)?,
+        })
+    }
+
+    pub fn differs(&self, out: &mut Out) -> bool {
+        let given = give(self.before, self.call.call(), self.call.room);
+        say!(out, "{given} -> {}", Shown(&given.state));
+        !self.back.fit(&given) || given.state != self.after
+    }
+}
+
+// held START | BYTE | BACK | START | RULE: a run over 128s ends with the byte before the one named,
+// or with that where it is the first; and one more gives 0.
+#[derive(Drop)]
+pub struct Held {
+    before: State,
+    byte: Fields,
+    back: Fields,
+    pub after: State,
+}
+
+impl Held {
+    pub fn read_from(out: &mut Out, cells: &mut Cells<'_, '_>) -> Result<Held, Told> {
+        let before = cells.start(out)?;
+        Ok(Held {
+            before,
+            byte: cells.back(out)?,
+            back: cells.back(out)?,
+            after: cells.after(out, before)?,
+        })
+    }
+
+    pub fn differs(&self, out: &mut Out) -> bool {
+        let ended = give(self.before, Call::Run(&ENOUGH), ROOM);
+        let next = give(ended.state, Call::Run(&[128]), ROOM);
+        say!(out, "{ended}{next}");
+        let read = self.byte.number.saturating_sub(1).max(1);
+        ended.read != read
+            || !self.back.fit_number(ended.number())
+            || next.number() != 0
+            || next.state != self.after
+    }
+}
+
+// bad START | BACK | START | BACK | RULE: a run over no bytes, a byte, a tick, a song end, a report
+// and a run, of a bad record: nothing is written, read or changed. And a run over no bytes, of the
+// record beside it.
+#[derive(Drop)]
+pub struct Bad {
+    state: State,
+    back: Fields,
+    pub good: State,
+    accepted: Fields,
+}
+
+impl Bad {
+    pub fn read_from(out: &mut Out, cells: &mut Cells<'_, '_>) -> Result<Bad, Told> {
+        let state = cells.start(out)?;
+        Ok(Bad {
+            state,
+            back: cells.back(out)?,
+            good: cells.after(out, state)?,
+            accepted: cells.back(out)?,
+        })
+    }
+
+    pub fn differs(&self, out: &mut Out) -> bool {
+        let calls = [
+            Call::Run(&[]),
+            Call::Byte(128),
+            Call::Tick,
+            Call::SongEnd,
+            Call::Report(Flags {
+                drop: true,
+                cliff: true,
+                charger: true,
+            }),
+            Call::Run(&[128, 128]),
+        ];
+        let mut differs = false;
+        for call in calls {
+            let given = give(self.state, call, ROOM);
+            say!(out, "{given}");
+            differs |= !self.back.fit(&given) || given.state != self.state;
+        }
+        let given = give(self.good, Call::Run(&[]), ROOM);
+        say!(out, "{given}");
+        differs || !self.accepted.fit(&given)
     }
 }
 
 // write START | COMMAND | BACK | BACK | START | RULE: what was written, if anything, is given to
 // the board in one run.
-pub fn write(out: &Out, row: Row) -> usize {
-    let sent = written(row);
-    let first = row.first;
-    let bytes = sent.buffer;
-    let mut call = fields::none();
-    call.bytes = bytes;
-    call.count = sent.length;
-    say_given(out, sent);
-    plus(differ_from(first, sent), case(out, row, call))
+#[derive(Drop)]
+pub struct Write {
+    before: State,
+    message: Message,
+    sent: Fields,
+    back: Fields,
+    pub after: State,
 }
 
-// A call of a bad record: nothing is written, read or changed.
-fn refused(out: &Out, row: Row, kind: usize, count: usize) -> usize {
-    let state = row.before;
-    let first = row.first;
-    let given = give(fields::call_of(kind, count), state);
-    let after = given.state;
-    say_given(out, given);
-    plus(differ_from(first, given), differ_in(after, state))
-}
-
-// A run over no bytes, of the record beside it.
-fn accepted(out: &Out, row: Row) -> usize {
-    let state = row.after;
-    let back = row.back;
-    let given = give(fields::none(), state);
-    say_given(out, given);
-    differ_from(back, given)
-}
-
-// bad START | BACK | START | BACK | RULE: a run over no bytes, a byte, a tick, a song end, a report
-// and a run.
-pub fn bad(out: &Out, row: Row) -> usize {
-    let mut differs = refused(out, row, fields::RUN, 0);
-    let mut kind = fields::BYTE;
-    while kind <= fields::RUN {
-        differs = plus(differs, refused(out, row, kind, 2));
-        kind += 1;
+impl Write {
+    pub fn read_from(out: &mut Out, cells: &mut Cells<'_, '_>) -> Result<Write, Told> {
+        let before = cells.start(out)?;
+        Ok(Write {
+            before,
+            message: cells.command(out)?,
+            sent: cells.back(out)?,
+            back: cells.back(out)?,
+            after: cells.after(out, before)?,
+        })
     }
-    plus(differs, accepted(out, row))
-}
 
-// As many 128s as any held frame owes.
-fn give_128s(state: State, count: usize) -> Given {
-    give(fields::call_of(fields::RUN, count), state)
-}
-
-// held START | BYTE | BACK | START | RULE: a run over 128s ends with the byte before the one named,
-// or with that where it is the first; and one more gives 0.
-pub fn held(out: &Out, row: Row) -> usize {
-    let state = row.before;
-    let first = row.first;
-    let back = row.back;
-    let wanted = row.after;
-    let ended = give_128s(state, 512);
-    let left = ended.state;
-    let next = give_128s(left, 1);
-    let after = next.state;
-    say_given(out, ended);
-    say_given(out, next);
-    let byte = first.number;
-    let read = differ(ended.read, if byte < 2 { 1 } else { byte - 1 });
-    let number = differ(ended.number, back.number);
-    plus(
-        plus(read, number),
-        plus(next.number, differ_in(after, wanted)),
-    )
-}
-
-// The bytes of a frame, and 128s, from a record: the opcode and its data are read, with the number
-// expected, and nothing is held after them.
-fn cut(out: &Out, row: Row, state: State, number: usize) -> usize {
-    let call = row.call;
-    let first = row.first;
-    let head = give(call, state);
-    let left = head.state;
-    let waits = head.number == 9;
-    let rest = give_128s(left, if waits { 512 } else { 0 });
-    let whole = rest.state;
-    let held = whole.partial;
-    let ended = if waits { rest.number } else { head.number };
-    let read = plus(head.read, rest.read);
-    say_form(out, b" -> %0 read %1", [ended, read, 0, 0, 0, 0, 0, 0]);
-    let data = differ(read, plus(first.number, 1));
-    plus(plus(data, differ(ended, number)), held.count)
-}
-
-// frame BYTES | DATA | NUMBERS | RULE: from the first four records, in Off, Passive, Safe and Full.
-pub fn frame(out: &Out, session: Session, row: Row) -> usize {
-    let back = row.back;
-    let numbers = back.bytes;
-    let mut differs = 0;
-    let mut i = 0;
-    while i < 4 {
-        let state = session::state_at(session, session::OFF + i);
-        differs = plus(differs, cut(out, row, state, wide(numbers[i])));
-        i += 1;
+    pub fn differs(&self, out: &mut Out) -> bool {
+        let sent = give_writer(self.before, self.message);
+        let given = give(self.before, Call::Run(sent.wrote()), ROOM);
+        say!(out, "{sent}{given} -> {}", Shown(&given.state));
+        !self.sent.fit(&sent) || !self.back.fit(&given) || given.state != self.after
     }
-    differs
 }
 
 // speeds START | EXACT | BACK | RULE
-pub fn speeds(out: &Out, row: Row) -> usize {
-    let state = row.before;
-    let motors = state.motors;
-    let given = drive::wheel_speeds(motors.order, motors.first, motors.second);
-    let number = wide(given.number);
-    let right = bits(given.right);
-    let left = bits(given.left);
-    let capped = if given.capped { 1 } else { 0 };
-    say_form(
-        out,
-        b" -> %0[0  right ~1 left ~2][3 | capped]",
-        [number, right, left, capped, 0, 0, 0, 0],
-    );
-    let back = row.back;
-    let speeds = plus(differ(right, back.right), differ(left, back.left));
-    plus(
-        plus(differ(number, back.number), speeds),
-        differ(capped, back.capped),
-    )
+#[derive(Drop)]
+pub struct Speeds {
+    pub state: State,
+    back: Fields,
+}
+
+impl Speeds {
+    // What is exact is for the person who reads.
+    pub fn read_from(out: &mut Out, cells: &mut Cells<'_, '_>) -> Result<Speeds, Told> {
+        let state = cells.start(out)?;
+        let _ = cells.cell();
+        let back = cells.back(out)?;
+        Ok(Speeds { state, back })
+    }
+
+    pub fn differs(&self, out: &mut Out) -> bool {
+        let motors = self.state.motors;
+        let given = drive::wheel_speeds(motors.order, motors.first, motors.second);
+        match given {
+            Ok(speeds) => {
+                say!(out, " -> 0 right {} left {}", speeds.right, speeds.left);
+                if speeds.capped {
+                    say!(out, " capped");
+                }
+            }
+            Err(refusal) => say!(out, " -> {}", u8::from(refusal)),
+        }
+        !self.back.fit_speeds(given)
+    }
 }

@@ -1,180 +1,173 @@
 // The words and numbers of a cell that says a call, or what comes back from one.
-use terminal::{Out, bits, bytes_from, signed_from, which};
+use crate::give::{Call, Flags, Given, ROOM};
+use drive::Speeds;
+use terminal::{Bytes, Out, Text, Told};
+use wire::Refusal;
 
-// The words, by their places among the names. Those before `wrote` take a number.
-const READ: usize = 0;
+// What a refusal has in place of speeds.
+const NO_SPEEDS: Speeds = Speeds {
+    right: 0,
+    left: 0,
+    capped: false,
+};
 
-const RIGHT: usize = 1;
-
-const LEFT: usize = 2;
-
-const ROOM: usize = 3;
-
-const WROTE: usize = 4;
-
-const CAPPED: usize = 5;
-
-const DROP: usize = 6;
-
-const CLIFF: usize = 7;
-
-const CHARGER: usize = 8;
+// The words of a cell. Those before `Wrote` have a number behind them.
+#[derive(Clone, Copy, Debug, PartialEq, Eq)]
+enum Field {
+    Read,
+    Right,
+    Left,
+    Room,
+    Wrote,
+    Capped,
+    Drop,
+    Cliff,
+    Charger,
+    Kind(Kind),
+}
 
 // The kinds of call; a run has no word.
-pub const BYTE: usize = 9;
-
-pub const TICK: usize = 10;
-
-pub const SONG_END: usize = 11;
-
-pub const REPORT: usize = 12;
-
-pub const RUN: usize = 13;
-
-// A number that stands for itself.
-const NUMBER: usize = 13;
+#[derive(Clone, Copy, Debug, PartialEq, Eq)]
+enum Kind {
+    Byte,
+    Tick,
+    SongEnd,
+    Report,
+    Run,
+}
 
 // Of a call its kind, its bytes, the flags of a report and the room that is lent. Of what comes
-// back the number, how many bytes a run read, the bytes of an answer, and of wheel speeds the right
-// and the left one and whether they are capped. Not ok where a word was bad, and then it has been
-// said.
-#[derive(Clone, Copy)]
+// back the number, how many bytes a run read, the bytes of an answer, and wheel speeds. `lists`:
+// numbers are bytes from here on.
+#[derive(Drop)]
 pub struct Fields {
-    pub kind: usize,
-    pub bytes: [u8; 512],
-    pub count: usize,
-    pub drop: bool,
-    pub cliff: bool,
-    pub charger: bool,
+    kind: Kind,
+    pub bytes: Bytes,
+    flags: Flags,
     pub room: usize,
     pub number: usize,
-    pub read: usize,
-    pub right: usize,
-    pub left: usize,
-    pub capped: usize,
-    // Numbers are bytes from here on; the place that is read next; whether there is more.
+    read: usize,
+    speeds: Speeds,
     lists: bool,
-    next: usize,
-    more: bool,
-    pub ok: bool,
 }
 
-// A run over no bytes with room enough; or nothing that comes back.
-pub fn none() -> Fields {
-    Fields {
-        kind: RUN,
-        bytes: [0u8; 512],
-        count: 0,
-        drop: false,
-        cliff: false,
-        charger: false,
-        room: 300,
-        number: 0,
-        read: 0,
-        right: 0,
-        left: 0,
-        capped: 0,
-        lists: false,
-        next: 0,
-        more: true,
-        ok: true,
+impl Field {
+    fn named(word: &[u8]) -> Option<Field> {
+        Some(match word {
+            b"read" => Field::Read,
+            b"right" => Field::Right,
+            b"left" => Field::Left,
+            b"room" => Field::Room,
+            b"wrote" => Field::Wrote,
+            b"capped" => Field::Capped,
+            b"drop" => Field::Drop,
+            b"cliff" => Field::Cliff,
+            b"charger" => Field::Charger,
+            b"byte" => Field::Kind(Kind::Byte),
+            b"tick" => Field::Kind(Kind::Tick),
+            b"song-end" => Field::Kind(Kind::SongEnd),
+            b"report" => Field::Kind(Kind::Report),
+            _ => return None,
+        })
     }
-}
-
-// A call with 128s and all three flags.
-pub fn call_of(kind: usize, count: usize) -> Fields {
-    let mut call = none();
-    call.kind = kind;
-    call.bytes = [128u8; 512];
-    call.count = count;
-    call.drop = true;
-    call.cliff = true;
-    call.charger = true;
-    call
-}
-
-// A word that takes no number.
-fn with_word(fields: Fields, word: usize, next: usize) -> Fields {
-    let mut set = fields;
-    set.next = next;
-    match word {
-        WROTE => set.lists = true,
-        CAPPED => set.capped = 1,
-        DROP => set.drop = true,
-        CLIFF => set.cliff = true,
-        CHARGER => set.charger = true,
-        _ => set.kind = word,
-    }
-    set
 }
 
 // A number with a sign, as its sixteen bits.
-fn with_number(
-    out: &Out,
-    fields: Fields,
-    word: usize,
-    text: &[u8],
-    from: usize,
-    line_number: usize,
-) -> Fields {
-    let read = signed_from(out, text, from, line_number, 32767);
-    let n = bits(read.value);
-    let mut set = fields;
-    set.next = read.next;
-    set.more = read.ok;
-    set.ok = read.ok;
-    match word {
-        READ => set.read = n,
-        RIGHT => set.right = n,
-        LEFT => set.left = n,
-        ROOM => set.room = n,
-        _ => set.number = n,
-    }
-    set
+fn sixteen(out: &mut Out, text: &mut Text<'_>) -> Result<usize, Told> {
+    let v = text.signed(out, i16::MAX)?;
+    Ok(usize::from(v.cast_unsigned()))
 }
 
-// Bytes, up to the cell's end.
-fn with_bytes(out: &Out, fields: Fields, text: &[u8], from: usize, line_number: usize) -> Fields {
-    let read = bytes_from(out, text, from, line_number);
-    let bytes = read.values;
-    let mut set = fields;
-    set.bytes = bytes;
-    set.count = read.count;
-    set.more = false;
-    set.ok = read.ok;
-    set
-}
+impl Fields {
+    // A run over no bytes with room enough; or nothing that comes back.
+    fn new(lists: bool) -> Fields {
+        Fields {
+            kind: Kind::Run,
+            bytes: Bytes::new(),
+            flags: Flags {
+                drop: false,
+                cliff: false,
+                charger: false,
+            },
+            room: ROOM,
+            number: 0,
+            read: 0,
+            speeds: NO_SPEEDS,
+            lists,
+        }
+    }
 
-// The next word of the cell; at its end there are no bytes.
-fn step(out: &Out, fields: Fields, text: &[u8], line_number: usize) -> Fields {
-    let word = line::next_word(text, fields.next);
-    let start = word.start;
-    let end = word.end;
-    let name = which(
-        &text[start..end],
-        b"read right left room wrote capped drop cliff charger byte tick song-end report",
-    );
-    if name < WROTE {
-        return with_number(out, fields, name, text, end, line_number);
+    // A cell: numbers are bytes from the first on, or from `wrote` on.
+    pub fn read_from(out: &mut Out, text: &mut Text<'_>, lists: bool) -> Result<Fields, Told> {
+        let mut fields = Fields::new(lists);
+        for _ in 0..=text.bytes.len() {
+            let Some(word) = text.peek() else { break };
+            match Field::named(word.bytes) {
+                Some(field) => {
+                    text.at = word.end();
+                    fields.set(out, field, text)?;
+                }
+                None => fields.take_number(out, text)?,
+            }
+        }
+        Ok(fields)
     }
-    if name < NUMBER {
-        return with_word(fields, name, end);
-    }
-    if fields.lists || start == end {
-        return with_bytes(out, fields, text, start, line_number);
-    }
-    with_number(out, fields, NUMBER, text, start, line_number)
-}
 
-// A cell from a place on: numbers are bytes from the first on, or from `wrote` on.
-pub fn fields_from(out: &Out, text: &[u8], from: usize, lists: bool, line_number: usize) -> Fields {
-    let mut fields = none();
-    fields.next = from;
-    fields.lists = lists;
-    let mut turns = text.len();
-    while turns > 0 && fields.more {
-        fields = step(out, fields, text, line_number);
-        turns -= 1;
+    // A word, and the number behind it.
+    fn set(&mut self, out: &mut Out, field: Field, text: &mut Text<'_>) -> Result<(), Told> {
+        match field {
+            Field::Read => self.read = sixteen(out, text)?,
+            Field::Right => self.speeds.right = text.signed(out, i16::MAX)?,
+            Field::Left => self.speeds.left = text.signed(out, i16::MAX)?,
+            Field::Room => self.room = sixteen(out, text)?,
+            Field::Wrote => self.lists = true,
+            Field::Capped => self.speeds.capped = true,
+            Field::Drop => self.flags.drop = true,
+            Field::Cliff => self.flags.cliff = true,
+            Field::Charger => self.flags.charger = true,
+            Field::Kind(kind) => self.kind = kind,
+        }
+        Ok(())
     }
-    fields
+
+    // A number that stands for itself, or bytes up to the cell's end.
+    fn take_number(&mut self, out: &mut Out, text: &mut Text<'_>) -> Result<(), Told> {
+        if self.lists {
+            self.bytes = text.numbers(out)?;
+        } else {
+            self.number = sixteen(out, text)?;
+        }
+        Ok(())
+    }
+
+    // The call that the cell says; a byte that is not said is 0.
+    pub fn call(&self) -> Call<'_> {
+        match self.kind {
+            Kind::Run => Call::Run(self.bytes.as_slice()),
+            Kind::Byte => Call::Byte(self.bytes.as_slice().first().copied().unwrap_or(0)),
+            Kind::Tick => Call::Tick,
+            Kind::SongEnd => Call::SongEnd,
+            Kind::Report => Call::Report(self.flags),
+        }
+    }
+
+    // Whether the number, the bytes read and the answer came back; bytes behind it that were 0
+    // still are.
+    pub fn fit(&self, given: &Given) -> bool {
+        self.fit_number(given.number())
+            && self.read == given.read
+            && self.bytes.as_slice() == given.wrote()
+            && given.rest().iter().all(|&b| b == 0)
+    }
+
+    pub fn fit_number(&self, number: u8) -> bool {
+        self.number == usize::from(number)
+    }
+
+    pub fn fit_speeds(&self, given: Result<Speeds, Refusal>) -> bool {
+        match given {
+            Ok(speeds) => self.fit_number(0) && self.speeds == speeds,
+            Err(refusal) => self.fit_number(u8::from(refusal)) && self.speeds == NO_SPEEDS,
+        }
+    }
 }

@@ -1,81 +1,121 @@
-// The board's calls, as a cell says them, and what comes back.
-use crate::fields;
-use crate::fields::Fields;
-use board::{Answer, Ran};
-use state::State;
-use terminal::{wide, within};
+// The board's calls, as a line says them, and what comes back.
+ghost use Rattle.std.specs.Prelude.{◌≤◌};
 
-// What a call gives, with the whole buffer that was lent.
-#[derive(Clone, Copy)]
-pub struct Given {
-    pub number: usize,
-    pub read: usize,
-    pub length: usize,
-    pub buffer: [u8; 512],
-    pub state: State,
-}
+use board::Ran;
+use command::Message;
+use state::State;
+use std::fmt;
+use std::fmt::Write;
+use terminal::Listed;
+use wire::Refusal;
+
+// The bytes that a call may write over, and how many of them are lent where a line says nothing.
+const BUFFER: usize = 512;
+
+pub const ROOM: usize = 300;
 
 // Packets 7 to 34: packet 29 is 2 25 and packet 13 is 0, as in the example that the Roomba 500 Open
 // Interface prints; every other byte is its place and 100.
-fn image() -> [u8; 40] {
-    *b"defghi\x00klmnopqrstuvwxyz{|}~\x7f\x80\x81\x02\x19\x84\x85\x86\x87\x88\x89\x8a\x8b"
+const IMAGE: [u8; 40] =
+    *b"defghi\x00klmnopqrstuvwxyz{|}~\x7f\x80\x81\x02\x19\x84\x85\x86\x87\x88\x89\x8a\x8b";
+
+// The flags of a report.
+#[derive(Clone, Copy, Debug, PartialEq, Eq)]
+pub struct Flags {
+    pub drop: bool,
+    pub cliff: bool,
+    pub charger: bool,
+}
+
+// A call, with what it is given beside the record. The performer has calls of its own: those of a
+// file carry an image of the file's, and a message.
+#[derive(Clone, Copy)]
+pub enum Call<'a> {
+    Run(&'a [u8]),
+    Byte(u8),
+    Tick,
+    SongEnd,
+    Report(Flags),
+}
+
+// What a call gives, with the whole buffer.
+#[derive(Clone, Copy)]
+pub struct Given {
+    pub sent: Result<usize, Refusal>,
+    pub read: usize,
+    buffer: [u8; BUFFER],
+    pub state: State,
+}
+
+impl Given {
+    // The number that stands for the answer, 0 where the call is not refused.
+    pub fn number(&self) -> u8 {
+        words::number(self.sent.err())
+    }
+
+    // The bytes of the answer.
+    pub fn wrote(&self) -> &[u8] {
+        &self.buffer[..self.length()]
+    }
+
+    // The bytes behind it.
+    pub fn rest(&self) -> &[u8] {
+        &self.buffer[self.length()..]
+    }
+
+    fn length(&self) -> usize
+        ensures { result ≤ 512 }
+    {
+        self.sent.unwrap_or(0).min(BUFFER)
+    }
+}
+
+// What came back, in the words of the cell that expects it.
+impl fmt::Display for Given {
+    fn fmt<W: fmt::Write>(&self, f: &mut fmt::Formatter<W>) -> fmt::Result {
+        write!(f, " -> {}", self.number())?;
+        if self.read > 0 {
+            write!(f, " read {}", self.read)?;
+        }
+        if !self.wrote().is_empty() {
+            write!(f, " wrote {}", Listed::new(self.wrote()))?;
+        }
+        Ok(())
+    }
 }
 
 // Of the calls that read no slice the number of bytes read is 0.
-fn as_ran(answer: Answer) -> Ran {
-    let state = answer.state;
-    Ran {
-        number: answer.number,
-        length: answer.length,
-        state,
-        read: 0,
-    }
+fn perform(state: State, call: Call<'_>, buffer: &mut [u8]) -> Ran {
+    let answer = match call {
+        Call::Run(bytes) => return board::run(state, bytes, &IMAGE, buffer),
+        Call::Byte(b) => board::byte(state, b, &IMAGE, buffer),
+        Call::Tick => board::tick(state, &IMAGE, buffer),
+        Call::SongEnd => board::song_end(state),
+        Call::Report(flags) => board::safety_report(state, flags.drop, flags.cliff, flags.charger),
+    };
+    Ran { answer, read: 0 }
 }
 
-// The calls that are lent no buffer.
-fn report(call: Fields, state: State) -> Answer {
-    if call.kind == fields::SONG_END {
-        return board::song_end(state);
-    }
-    board::safety_report(state, call.drop, call.cliff, call.charger)
-}
-
-fn run(call: Fields, state: State, image: &[u8; 40], buffer: &mut [u8]) -> Ran {
-    let bytes = call.bytes;
-    let n = within(call.count, &bytes);
-    board::run(state, &bytes[0..n], image, buffer)
-}
-
-fn perform(call: Fields, state: State, buffer: &mut [u8]) -> Ran {
-    let image = image();
-    let bytes = call.bytes;
-    let kind = call.kind;
-    match kind {
-        fields::RUN => run(call, state, &image, buffer),
-        fields::BYTE => as_ran(board::byte(state, bytes[0], &image, buffer)),
-        fields::TICK => as_ran(board::tick(state, &image, buffer)),
-        _ => as_ran(report(call, state)),
-    }
-}
-
-pub fn give(call: Fields, state: State) -> Given {
-    let mut buffer = [0u8; 512];
-    let lent: &mut [u8] = &mut buffer;
-    let room = within(call.room, lent);
-    let ran = perform(call, state, &mut lent[0..room]);
-    let after = ran.state;
+// A call that is lent so much of a buffer.
+pub fn give(state: State, call: Call<'_>, room: usize) -> Given {
+    let mut buffer = [0u8; BUFFER];
+    let Ran { answer, read } = perform(state, call, &mut buffer[..room.min(BUFFER)]);
     Given {
-        number: wide(ran.number),
-        read: ran.read,
-        length: ran.length,
+        sent: answer.sent,
+        read,
         buffer,
-        state: after,
+        state: answer.state,
     }
 }
 
-// One byte.
-pub fn give_byte(state: State, b: u8) -> Given {
-    let mut call = fields::call_of(fields::BYTE, 1);
-    call.bytes = [b; 512];
-    give(call, state)
+// The writer's call, which leaves the record.
+pub fn give_writer(state: State, message: Message) -> Given {
+    let mut buffer = [0u8; BUFFER];
+    let sent = command::write(message, &mut buffer);
+    Given {
+        sent,
+        read: 0,
+        buffer,
+        state,
+    }
 }

@@ -1,165 +1,149 @@
-// The cells of a line that is compared, read before anything is done.
-ghost use Rattle.std.specs.Prelude.{◌≤◌, length};
-
-use crate::fields::{Fields, fields_from};
-use crate::session::{Session, say_fault};
+// The lines that are compared, and their cells, which are read before anything is done. What is bad
+// in one has been said, and the cells behind it are not read.
+use crate::cases::{Bad, Case, Frame, Held, Named, Speeds, Write};
+use crate::fields::Fields;
+use crate::session::{Fault, Session};
 use crate::start::start_from;
-use crate::{fields, session};
 use command::Message;
 use state::State;
-use terminal::{Out, plus, within};
+use terminal::{Out, Text, Told};
 
-// The kinds of line, by their places among the names.
-pub const REMARK: usize = 0;
+// The kinds of line, by their first words.
+#[derive(Clone, Copy, Debug, PartialEq, Eq)]
+pub enum Kind {
+    Record,
+    Frame,
+    Case,
+    Held,
+    Bad,
+    Write,
+    Speeds,
+}
 
-pub const HEADING: usize = 1;
+impl Kind {
+    pub fn named(word: &[u8]) -> Option<Kind> {
+        Some(match word {
+            b"record" => Kind::Record,
+            b"frame" => Kind::Frame,
+            b"case" => Kind::Case,
+            b"held" => Kind::Held,
+            b"bad" => Kind::Bad,
+            b"write" => Kind::Write,
+            b"speeds" => Kind::Speeds,
+            _ => return None,
+        })
+    }
+}
 
-pub const RECORD: usize = 2;
-
-pub const FRAME: usize = 3;
-
-pub const CASE: usize = 4;
-
-pub const HELD: usize = 5;
-
-pub const BAD: usize = 6;
-
-pub const WRITE: usize = 7;
-
-pub const SPEEDS: usize = 8;
-
-// The most cells of a line.
-const CELLS: usize = 6;
-
-// What the cells of a line say: the record before, and the one expected after or beside it; the
-// call; what is expected to come back, and what comes back first where there are two; a command.
-// Not ok where a cell was bad, and then it has been said.
+// The cells of a line that are still to be read.
 #[derive(Clone, Copy)]
-pub struct Row {
-    pub before: State,
-    pub after: State,
-    pub call: Fields,
-    pub first: Fields,
-    pub back: Fields,
-    pub message: Message,
-    pub ok: bool,
+pub struct Cells<'a, 's> {
+    session: &'s Session,
+    text: Text<'a>,
 }
 
-// What a cell has: N a name and a record, S the record before, A the one after or beside it; C a
-// call, B bytes, F what comes back first, L what comes back last; M a command. Where there is a
-// blank, there is none, or text for the reader.
-fn letter_of(kind: usize, i: usize) -> u8 {
-    let letters = *b"            NA    CFB   SCLA  SFLA  SFAL  SMFLA S L   ";
-    if kind > SPEEDS {
-        return 32;
+impl<'a> Cells<'a, '_> {
+    // The next cell, up to the next bar or the line's end.
+    pub fn cell(&mut self) -> Text<'a> {
+        let text = self.text;
+        let end = text.find(text.at, b'|').unwrap_or(text.bytes.len());
+        self.text.at = end.saturating_add(1);
+        text.up_to(end)
     }
-    let k = plus(kind * CELLS, i);
-    if k < 54 { letters[k] } else { 32 }
-}
 
-fn empty() -> Row {
-    Row {
-        before: state::power_on(),
-        after: state::power_on(),
-        call: fields::none(),
-        first: fields::none(),
-        back: fields::none(),
-        message: command::decode([0u8; 35]),
-        ok: true,
+    // A record behind the name that it gets.
+    pub fn named(&mut self, out: &mut Out) -> Result<(&'a [u8], State), Told> {
+        let mut cell = self.cell();
+        let name = cell.name();
+        let state = start_from(out, self.session, state::power_on(), &mut cell)?;
+        Ok((name, state))
+    }
+
+    pub fn start(&mut self, out: &mut Out) -> Result<State, Told> {
+        self.after(out, state::power_on())
+    }
+
+    // A record that the line has behind its first one.
+    pub fn after(&mut self, out: &mut Out, before: State) -> Result<State, Told> {
+        start_from(out, self.session, before, &mut self.cell())
+    }
+
+    // A call, or bytes.
+    pub fn call(&mut self, out: &mut Out) -> Result<Fields, Told> {
+        Fields::read_from(out, &mut self.cell(), true)
+    }
+
+    // What comes back.
+    pub fn back(&mut self, out: &mut Out) -> Result<Fields, Told> {
+        Fields::read_from(out, &mut self.cell(), false)
+    }
+
+    // A command by its name and its values.
+    pub fn command(&mut self, out: &mut Out) -> Result<Message, Told> {
+        let mut cell = self.cell();
+        let place = cell.place();
+        let Some(op) = words::opcode_named(cell.name()) else {
+            return Err(Fault::NoCommand.tell(out, cell.number, place));
+        };
+        words::message_from(out, op, &mut cell)
     }
 }
 
-// The place of the next bar, or the text's end.
-fn bar(text: &[u8], from: usize) -> usize
-    ensures { result ≤ length text.now }
-{
-    let mut i = within(from, text);
-    while i < text.len() {
-        if text[i] == b'|' {
-            return i;
+// A line that is compared.
+#[derive(Drop)]
+pub enum Row<'a> {
+    Record(Named<'a>),
+    Frame(Frame),
+    Case(Case),
+    Held(Held),
+    Bad(Bad),
+    Write(Write),
+    Speeds(Speeds),
+}
+
+impl<'a> Row<'a> {
+    // The cells of a line, from the place that is read next on.
+    pub fn read_from(
+        out: &mut Out,
+        session: &Session,
+        kind: Kind,
+        text: Text<'a>,
+    ) -> Result<Row<'a>, Told> {
+        let mut cells = Cells { session, text };
+        Ok(match kind {
+            Kind::Record => Row::Record(Named::read_from(out, &mut cells)?),
+            Kind::Frame => Row::Frame(Frame::read_from(out, &mut cells)?),
+            Kind::Case => Row::Case(Case::read_from(out, &mut cells)?),
+            Kind::Held => Row::Held(Held::read_from(out, &mut cells)?),
+            Kind::Bad => Row::Bad(Bad::read_from(out, &mut cells)?),
+            Kind::Write => Row::Write(Write::read_from(out, &mut cells)?),
+            Kind::Speeds => Row::Speeds(Speeds::read_from(out, &mut cells)?),
+        })
+    }
+
+    // Whether what the line gives, which is written, differs from what it expects.
+    pub fn differs(&self, out: &mut Out, session: &Session) -> bool {
+        match self {
+            Row::Record(row) => row.differs(out),
+            Row::Frame(row) => row.differs(out, session),
+            Row::Case(row) => row.differs(out),
+            Row::Held(row) => row.differs(out),
+            Row::Bad(row) => row.differs(out),
+            Row::Write(row) => row.differs(out),
+            Row::Speeds(row) => row.differs(out),
         }
-        i += 1;
     }
-    i
-}
 
-// A record; behind its name, where it gets one.
-fn with_record(out: &Out, session: Session, row: Row, letter: u8, text: &[u8], from: usize) -> Row {
-    let name = line::next_word(text, from);
-    let place = if letter == b'N' { name.end } else { from };
-    let before = row.before;
-    let known = session::with_state(session, session::BEFORE, before);
-    let begun = start_from(out, known, text, place);
-    let state = begun.state;
-    let mut next = row;
-    next.ok = begun.ok;
-    next.after = state;
-    if letter != b'A' {
-        next.before = state;
+    // The record that `then` names on the next line.
+    pub fn then(&self) -> State {
+        match self {
+            Row::Record(row) => row.same,
+            Row::Frame(_) => state::power_on(),
+            Row::Case(row) => row.after,
+            Row::Held(row) => row.after,
+            Row::Bad(row) => row.good,
+            Row::Write(row) => row.after,
+            Row::Speeds(row) => row.state,
+        }
     }
-    next
-}
-
-// A call or bytes, and what comes back.
-fn with_fields(
-    out: &Out,
-    row: Row,
-    letter: u8,
-    text: &[u8],
-    from: usize,
-    line_number: usize,
-) -> Row {
-    let lists = letter == b'C' || letter == b'B';
-    let fields = fields_from(out, text, from, lists, line_number);
-    let mut next = row;
-    next.ok = fields.ok;
-    match letter {
-        b'C' => next.call = fields,
-        b'F' => next.first = fields,
-        _ => next.back = fields,
-    }
-    next
-}
-
-// A command by its name and its values.
-fn with_command(out: &Out, row: Row, text: &[u8], from: usize, line_number: usize) -> Row {
-    let word = line::next_word(text, from);
-    let start = word.start;
-    let end = word.end;
-    let op = words::opcode_named(&text[start..end]);
-    let mut next = row;
-    if op == 0 {
-        say_fault(out, line_number, start, session::NO_COMMAND);
-        next.ok = false;
-        return next;
-    }
-    let typed = words::message_from(out, op, text, end, line_number);
-    let message = typed.message;
-    next.message = message;
-    next.ok = typed.ok;
-    next
-}
-
-fn with_cell(out: &Out, session: Session, row: Row, letter: u8, text: &[u8], from: usize) -> Row {
-    match letter {
-        b'N' | b'S' | b'A' => with_record(out, session, row, letter, text, from),
-        b'M' => with_command(out, row, text, from, session.line_number),
-        b' ' => row,
-        _ => with_fields(out, row, letter, text, from, session.line_number),
-    }
-}
-
-// The cells from a place on, up to the first that is bad.
-pub fn row_from(out: &Out, session: Session, kind: usize, text: &[u8], from: usize) -> Row {
-    let mut row = empty();
-    let mut at = from;
-    let mut i = 0;
-    while i < CELLS && row.ok {
-        let end = bar(text, at);
-        let letter = letter_of(kind, i);
-        row = with_cell(out, session, row, letter, &text[0..end], at);
-        at = plus(end, 1);
-        i += 1;
-    }
-    row
 }

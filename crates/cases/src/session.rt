@@ -1,134 +1,136 @@
 // What lines of the input set for those after them, the named records; how many lines were
 // compared; and what is said of a line that cannot be read.
+use arrayvec::ArrayVec;
 use state::State;
-use terminal::{Out, plus, say_form, which, within};
+use std::fmt;
+use std::fmt::Write;
+use terminal::{Out, Told, say};
 
-// The most records by name. Three are there from the start: `then`, which the last line expects
-// after its call; `before`, from which the line's own call is given; and `off`, as at power-on.
-pub const RECORDS: usize = 32;
+// The most records by name, and the bytes of their names with a blank behind each. `then` and
+// `before` are two more of 32, and of 512 bytes.
+const RECORDS: usize = 30;
 
-pub const THEN: usize = 0;
+const NAMES: usize = 500;
 
-pub const BEFORE: usize = 1;
-
-pub const OFF: usize = 2;
-
-// Their names, with blanks between them.
-#[derive(Clone, Copy)]
-pub struct Names {
-    pub text: [u8; 512],
-    pub size: usize,
-    pub count: usize,
+// A record by name. Its name lacks what had no room.
+#[derive(Drop)]
+struct Named {
+    name: ArrayVec<u8, NAMES>,
+    state: State,
 }
 
-#[derive(Clone, Copy)]
+impl Default for Named {
+    fn default() -> Named {
+        Named {
+            name: ArrayVec::new(),
+            state: state::power_on(),
+        }
+    }
+}
+
+// The records by name, from `off` on, which is as at power-on; the room that is left for names; the
+// record that the last line expects after its call; how many lines were compared, and how many of
+// them differ.
+#[derive(Drop)]
 pub struct Session {
-    pub states: [State; RECORDS],
-    pub names: Names,
-    pub line_number: usize,
-    pub lines: usize,
-    pub differ: usize,
+    records: ArrayVec<Named, RECORDS>,
+    room: usize,
+    pub then: State,
+    lines: usize,
+    differ: usize,
 }
 
-// What is wrong with a line, by its place in the text below.
-pub const NO_RECORD: usize = 0;
-
-pub const NO_BYTE: usize = 1;
-
-pub const NO_COMMAND: usize = 2;
-
-pub const NO_KIND: usize = 3;
-
-pub const TOO_LONG: usize = 4;
-
-pub const NO_INPUT: usize = 5;
-
-// Places are counted from 1.
-pub fn say_fault(out: &Out, line_number: usize, place: usize, fault: usize) {
-    say_form(
-        out,
-        b"line %0: place %1: [2 no record has this name|a byte is at most 255|\
-        this is no command|this is no kind of line|\
-        the line is longer than 1024 bytes|after this line the input could not be read]\n",
-        [line_number, plus(place, 1), fault, 0, 0, 0, 0, 0],
-    );
+// What is wrong with a line.
+#[derive(Clone, Copy, Debug, PartialEq, Eq)]
+pub enum Fault {
+    NoRecord,
+    NoByte,
+    NoCommand,
+    NoKind,
+    TooLong,
+    NoInput,
 }
 
-// A line that cannot be read.
-pub fn faulty(out: &Out, session: Session, place: usize, fault: usize) -> Session {
-    say_fault(out, session.line_number, place, fault);
-    counted(session, 1)
-}
-
-// One line more that was compared.
-pub fn counted(session: Session, differs: usize) -> Session {
-    let mut next = session;
-    next.lines = plus(session.lines, 1);
-    if differs > 0 {
-        next.differ = plus(session.differ, 1);
-    }
-    next
-}
-
-fn with_text(names: Names, text: &[u8]) -> Names {
-    let mut next = names;
-    let mut kept = names.text;
-    let got = line::gather(text, 0, &mut kept, names.size);
-    next.text = kept;
-    next.size = got.size;
-    next
-}
-
-pub fn opened() -> Session {
-    let none = Names {
-        text: [0u8; 512],
-        size: 0,
-        count: 3,
-    };
-    Session {
-        states: [state::power_on(); RECORDS],
-        names: with_text(none, b"then before off "),
-        line_number: 0,
-        lines: 0,
-        differ: 0,
+impl fmt::Display for Fault {
+    fn fmt<W: fmt::Write>(&self, f: &mut fmt::Formatter<W>) -> fmt::Result {
+        f.write_str(match self {
+            Fault::NoRecord => "no record has this name",
+            Fault::NoByte => "a byte is at most 255",
+            Fault::NoCommand => "this is no command",
+            Fault::NoKind => "this is no kind of line",
+            Fault::TooLong => "the line is longer than 1024 bytes",
+            Fault::NoInput => "after this line the input could not be read",
+        })
     }
 }
 
-// Which record a word names; their number, or more, where it names none.
-pub fn index_of(names: Names, word: &[u8]) -> usize {
-    let text = names.text;
-    let n = within(names.size, &text);
-    which(word, &text[0..n])
-}
-
-pub fn state_at(session: Session, k: usize) -> State {
-    let states = session.states;
-    if k < RECORDS { states[k] } else { states[0] }
-}
-
-pub fn with_state(session: Session, k: usize, state: State) -> Session {
-    let mut next = session;
-    if k < RECORDS {
-        let mut states = session.states;
-        states[k] = state;
-        next.states = states;
+impl Fault {
+    pub fn tell(self, out: &mut Out, line: usize, place: usize) -> Told {
+        out.say_where(line, place);
+        say!(out, "{self}\n");
+        Told
     }
-    next
 }
 
-// A record under the next word of a line, with the blank behind it; one that has no room is not
-// there.
-pub fn with_name(session: Session, text: &[u8], from: usize, state: State) -> Session {
-    let word = line::next_word(text, from);
-    let names = session.names;
-    let start = within(word.start, text);
-    let end = within(plus(word.end, 1), text);
-    let mut next = with_state(session, names.count, state);
-    let mut more = names;
-    if start < end {
-        more = with_text(names, &text[start..end]);
+impl Session {
+    pub fn new() -> Session {
+        let mut session = Session {
+            records: ArrayVec::new(),
+            room: NAMES,
+            then: state::power_on(),
+            lines: 0,
+            differ: 0,
+        };
+        session.define(b"off", state::power_on());
+        session
     }
-    more.count = plus(names.count, 1);
-    next.names = more;
-    next
+
+    // A record under a name. Past the most records it is not kept, nor is what of its name has no
+    // room; where nothing of the name has, any name that is not known is taken for it.
+    pub fn define(&mut self, name: &[u8], state: State) {
+        let mut record = Named {
+            name: ArrayVec::new(),
+            state,
+        };
+        let kept = &name[..name.len().min(self.room)];
+        let _ = record.name.try_extend_from_slice(kept);
+        self.room = self.room.saturating_sub(name.len().saturating_add(1));
+        let _ = self.records.try_push(record);
+    }
+
+    // The record of a name, the first where there are more. `before` is, behind a call, the record
+    // from which it was given.
+    pub fn record(&self, name: &[u8], before: State) -> Option<State> {
+        match name {
+            b"then" => Some(self.then),
+            b"before" => Some(before),
+            _ => {
+                let mut records = self.records.as_slice().iter();
+                let found = records.find(|r| r.name.is_empty() || r.name.as_slice() == name)?;
+                Some(found.state)
+            }
+        }
+    }
+
+    // A record by its place, `off` first; power-on where there are fewer.
+    pub fn record_at(&self, i: usize) -> State {
+        match self.records.as_slice().get(i) {
+            Some(record) => record.state,
+            None => state::power_on(),
+        }
+    }
+
+    // One line more that was compared, or that cannot be read, and then differs.
+    pub fn count(&mut self, differs: bool) {
+        self.lines = self.lines.wrapping_add(1);
+        if differs {
+            self.differ = self.differ.wrapping_add(1);
+        }
+    }
+
+    // The last line: how many were compared, and how many differ.
+    pub fn say_counts(&self, out: &mut Out) {
+        let (lines, differ) = (self.lines, self.differ);
+        say!(out, "{lines} lines compared, {differ} differ\n");
+    }
 }

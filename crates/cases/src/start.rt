@@ -1,90 +1,39 @@
 // The record that a cell says: a name, and then from left to right bytes, fed one by one, and parts
 // set by hand.
-use crate::give::give_byte;
-use crate::session;
-use crate::session::{Session, say_fault};
-use line::Number;
+use crate::give::{Call, ROOM, give};
+use crate::session::{Fault, Session};
 use state::State;
-use terminal::Out;
+use terminal::{Out, Text, Told};
 
-// A record, the place that is read next, and whether there is more; not ok where a word was bad,
-// and then it has been said.
-#[derive(Clone, Copy)]
-pub struct Begun {
-    pub state: State,
-    next: usize,
-    more: bool,
-    pub ok: bool,
+// A number is a byte for the board, and any other word a part of the record, with its numbers.
+fn step(out: &mut Out, state: &mut State, text: &mut Text<'_>, word: &[u8]) -> Result<(), Told> {
+    let Ok(n) = line::unsigned(word) else {
+        return words::set_part(out, state, text);
+    };
+    let _ = text.word();
+    let Ok(b) = u8::try_from(n) else {
+        return Err(Fault::NoByte.tell(out, text.number, text.at));
+    };
+    let given = give(*state, Call::Byte(b), ROOM);
+    *state = given.state;
+    Ok(())
 }
 
-fn so_far(state: State, next: usize, more: bool, ok: bool) -> Begun {
-    Begun {
-        state,
-        next,
-        more,
-        ok,
+// The record of a cell. The first one of the line goes by the name `before`.
+pub fn start_from(
+    out: &mut Out,
+    session: &Session,
+    before: State,
+    text: &mut Text<'_>,
+) -> Result<State, Told> {
+    let place = text.place();
+    let Some(mut state) = session.record(text.name(), before) else {
+        return Err(Fault::NoRecord.tell(out, text.number, place));
+    };
+    // A proved loop has to end: a cell has no more words than bytes.
+    for _ in 0..=text.bytes.len() {
+        let Some(word) = text.peek() else { break };
+        step(out, &mut state, text, word.bytes)?;
     }
-}
-
-// A number is a byte for the board.
-fn feed(out: &Out, state: State, n: usize, end: usize, line_number: usize) -> Begun {
-    if n > 255 {
-        say_fault(out, line_number, end, session::NO_BYTE);
-        return so_far(state, end, false, false);
-    }
-    let given = give_byte(state, n as u8);
-    let after = given.state;
-    so_far(after, end, true, true)
-}
-
-// A part of the record, and its numbers.
-fn put(out: &Out, state: State, text: &[u8], from: usize, line_number: usize) -> Begun {
-    let made = words::set_part(out, state, text, from, line_number);
-    let after = made.state;
-    so_far(after, made.next, made.ok, made.ok)
-}
-
-// The next word of the cell.
-fn step(out: &Out, now: Begun, text: &[u8], line_number: usize) -> Begun {
-    let word = line::next_word(text, now.next);
-    let start = word.start;
-    let end = word.end;
-    let state = now.state;
-    let value = line::unsigned(&text[start..end]);
-    if let Number::Plain(n) = value {
-        return feed(out, state, n, end, line_number);
-    }
-    if start < end {
-        return put(out, state, text, start, line_number);
-    }
-    so_far(state, end, false, true)
-}
-
-fn steps(out: &Out, first: Begun, text: &[u8], line_number: usize) -> Begun {
-    let mut now = first;
-    let mut turns = text.len();
-    while turns > 0 && now.more {
-        now = step(out, now, text, line_number);
-        turns -= 1;
-    }
-    now
-}
-
-pub fn start_from(out: &Out, session: Session, text: &[u8], from: usize) -> Begun {
-    let word = line::next_word(text, from);
-    let start = word.start;
-    let end = word.end;
-    let names = session.names;
-    let k = session::index_of(names, &text[start..end]);
-    let state = session::state_at(session, k);
-    if k < names.count && k < session::RECORDS {
-        return steps(
-            out,
-            so_far(state, end, true, true),
-            text,
-            session.line_number,
-        );
-    }
-    say_fault(out, session.line_number, start, session::NO_RECORD);
-    so_far(state, end, false, false)
+    Ok(state)
 }

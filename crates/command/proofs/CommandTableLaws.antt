@@ -14,7 +14,7 @@ use mir.Syntax.{w16}
 use mir.Val.{SFits, to_z, of_z}
 use mir.ValLaws.{to_z-of_z}
 use borrow.Author.Tests.{le-leb, lt-leb, ne_eqb}
-use Rattle.wire.specs.Lists.{all, all_from, among, within, is_byte, all_bytes}
+use Rattle.wire.specs.Lists.{all, all_from, among, is_byte, all_bytes}
 use Rattle.wire.specs.Sixteen.{minus}
 use Rattle.wire.proofs.BoolLaws.{is_true, beq_eq, or_none, le_or_lt}
 use Rattle.wire.proofs.ListsLaws.{from, all_take}
@@ -29,11 +29,6 @@ use Rattle.command.proofs.VariantLaws.{every}
 use Rattle.command.proofs.LayoutLaws.{stored_all}
 
 -- ---- allowed_of
-
--- an arm that knows the command, or the modes of its row
-pub allowed_as : {x y : Command} {modes : List ℕ} (mode : ℕ) → x ≡ y → (row_of y).modes ≡ modes → among modes mode ≡ allowed_of x mode
-unfolding allowed_of
-allowed_as mode e m = ap (λ (l : List ℕ). among l mode) (sym m) ∙ ap (λ (c : Command). among (row_of c).modes mode) (sym e)
 
 -- modes of which none is above 3
 none_above : (l : List ℕ) (mode : ℕ) → T (all (λ k. leb k 3) l) → 3 < mode → among l mode ≡ false
@@ -52,18 +47,12 @@ pub by_opcode : (c d : Command) (mode : ℕ) → opcode_of c ≡ opcode_of d →
 unfolding row_of allowed_of
 by_opcode c d mode e f = ap₂ (λ (op n : ℕ). among (cond (eqb n 0) (row_for command_table op) no_row).modes mode) e f
 
--- the modes of a row as the code tests them, by one test over all bytes
+-- two tests of a byte that agree, by one test over all bytes
 pub alike : (f g : ℕ → Bool) → T (all_from (λ m. beq (f m) (g m)) 0 256) → (m : ℕ) → m < 256 → f m ≡ g m
 alike f g t m h = beq_eq (f m) (g m) (from (λ m. beq (f m) (g m)) 0 256 t m zero-le (omega arith))
 
 pub from_off : (m : ℕ) → m < 256 → leb m 3 ≡ among (0 ∷ 1 ∷ 2 ∷ 3 ∷ []) m
 from_off = alike (λ m. leb m 3) (among (0 ∷ 1 ∷ 2 ∷ 3 ∷ [])) tt
-
-pub from_passive : (m : ℕ) → m < 256 → within 1 3 m ≡ among (1 ∷ 2 ∷ 3 ∷ []) m
-from_passive = alike (within 1 3) (among (1 ∷ 2 ∷ 3 ∷ [])) tt
-
-pub from_safe : (m : ℕ) → m < 256 → within 2 3 m ≡ among (2 ∷ 3 ∷ []) m
-from_safe = alike (within 2 3) (among (2 ∷ 3 ∷ [])) tt
 
 -- ---- legal_of
 

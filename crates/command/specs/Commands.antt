@@ -1,9 +1,9 @@
 -- What commands guarantee: the theorems of this crate.
 -- Assumes nothing.
-use Rattle.std.specs.Prelude.{◌≡◌, Bool, true, false, not, ◌&&◌, ◌||◌, ℕ, ◌≤◌, ◌<◌, T, leb, eqb, ℤ, pos, length, get_or, take, drop, replicate}
+use Rattle.std.specs.Prelude.{◌≡◌, Bool, true, false, not, ◌&&◌, ◌||◌, ℕ, ◌≤◌, ◌<◌, T, leb, eqb, ℤ, pos, length, get_or, take, drop, replicate, Result}
 use mathlib.Core.List.{List, map, flat_map}
 use Rattle.std.specs.Int.Signed.{le_z}
-use Rattle.wire.specs.declared.Sent.{Sent}
+use Rattle.wire.specs.declared.Refusal.{Refusal}
 use Rattle.wire.specs.Lists.{all, all_from, from_to, within, snoc, padded, all_zero, all_bytes, byte_array}
 use Rattle.wire.specs.Sixteen.{minus}
 use Rattle.wire.specs.Replies.{refused, wrote, Replied, ReplyFacts}
@@ -117,7 +117,7 @@ pub record WritingRight : Type 0 where
   pub not_offered_4 : (op : ℕ) (p : List ℕ) (room : ℕ) → write_reply (message (NotOffered op) p) room ≡ refused 4
   -- 4 exactly where the data aren't legal, 7 exactly where the frame is longer than the buffer, and
   -- else that frame
-  pub write_facts : (m : Message) (before after : List ℕ) (result : Sent) → Replied (write_reply m) before after result
+  pub write_facts : (m : Message) (before after : List ℕ) (result : Result ℕ Refusal) → Replied (write_reply m) before after result
       → ReplyFacts (legal_of m) (encode_of m) before after result
   -- a place that the command does not use makes no difference
   pub unused_ignored : (c : Command) (p q : List ℕ) → take (payload_size c) p ≡ take (payload_size c) q

@@ -30,19 +30,19 @@
 // be written, by the rows of docs/CALLS.md.
 #![tactic(auto)]
 
-ghost use Rattle.std.specs.Prelude.{◌≡◌, [], ◌∷◌, ◌++◌};
-ghost use Rattle.wire.specs.Lists.{within, padded};
+ghost use Rattle.std.specs.Prelude.{◌≡◌, ◌≤◌, ◌∷◌, ◌++◌};
 ghost use Rattle.wire.specs.Sixteen.{be16};
 ghost use Rattle.wire.specs.Replies.{Replied};
-ghost use Rattle.command.specs.Layout.{head_of, headed, payload_size, stored_count, command_of, decode_of};
-ghost use Rattle.command.specs.CommandTable.{is_in, ◌to◌, is_legal, speed, radius, legal_of, allowed_of, write_reply};
+ghost use Rattle.command.specs.Layout.{head_of, headed, payload_size, payload_in, stored_count, command_of, decode_of};
+ghost use Rattle.command.specs.CommandTable.{is_legal, speed, radius, legal_of, allowed_of, write_reply};
 ghost use Rattle.command.specs.Fields.{opening_of, message_of};
 
-use wire::Sent;
+use wire::Refusal;
 
 // A command, with its numbers as a host thinks of them, in the order in which they are sent. Notes
-// and ids, which an enum can't hold, stand beside it in a message.
-#[derive(Clone, Copy)]
+// and ids stand beside it in a message, as in the flat fields that cross to C: the theorems on the
+// writer speak of a payload of which a command uses a part.
+#[derive(Clone, Copy, Debug, PartialEq, Eq)]
 pub enum Command {
     // 128
     Start,
@@ -97,7 +97,7 @@ pub enum Command {
 }
 
 // A command with its notes or ids, in the first places of the payload.
-#[derive(Clone, Copy)]
+#[derive(Clone, Copy, Debug, PartialEq, Eq)]
 pub struct Message {
     pub command: Command,
     pub payload: [u8; 32],
@@ -107,7 +107,7 @@ pub struct Message {
 // are sent, the two words of a Drive or a Direct, and the payload. Which of them are a command's
 // data is in docs/CALLS.md; the others are ignored.
 #[repr(C)]
-#[derive(Clone, Copy)]
+#[derive(Clone, Copy, Debug, PartialEq, Eq)]
 pub struct Fields {
     pub opcode: u8,
     pub a: u8,
@@ -118,12 +118,74 @@ pub struct Fields {
     pub payload: [u8; 32],
 }
 
-// The bytes of a frame before its payload: the opcode and the command's numbers, in the
-// first places.
-#[derive(Clone, Copy)]
+// The bytes of a frame before its payload: the opcode and the command's numbers, in the first
+// places. No heap: an array, with the number of places that are in use.
+#[derive(Clone, Copy, Debug, PartialEq, Eq)]
 struct Head {
     bytes: [u8; 5],
     size: usize,
+}
+
+impl Head {
+    // These bytes, as many as there are.
+    fn new<const N: usize>(sent: [u8; N]) -> Head
+        requires { N ≤ 5 }
+        ensures { result ≡ headed sent.entry }
+    {
+        let mut bytes = [0u8; 5];
+        bytes[..N].copy_from_slice(&sent);
+        Head { bytes, size: N }
+    }
+
+    // An opcode and two sixteen-bit numbers.
+    fn words(op: u8, a: i16, b: i16) -> Head
+        ensures { result ≡ headed (op ∷ (be16 a ++ be16 b)) }
+    {
+        Head::new([
+            op,
+            wire::high16(a),
+            wire::low16(a),
+            wire::high16(b),
+            wire::low16(b),
+        ])
+    }
+}
+
+impl From<Command> for Head {
+    ghost from_gives = { λ command head. head ≡ headed (head_of command) };
+
+    // A reader wants no more of it than the size, which inlined is known in each arm.
+    #[inline(always)]
+    fn from(command: Command) -> Head {
+        match command {
+            Command::Start => Head::new([128]),
+            Command::Baud(code) => Head::new([129, code]),
+            Command::Control => Head::new([130]),
+            Command::Safe => Head::new([131]),
+            Command::Full => Head::new([132]),
+            Command::Power => Head::new([133]),
+            Command::Demo(demo) => Head::new([136, demo.cast_unsigned()]),
+            Command::Spot => Head::new([134]),
+            Command::Cover => Head::new([135]),
+            Command::Dock => Head::new([143]),
+            Command::Drive(velocity, radius) => Head::words(137, velocity, radius),
+            Command::Direct(right, left) => Head::words(145, right, left),
+            Command::Drivers(bits) => Head::new([138, bits]),
+            Command::Duties(driver2, driver1, driver0) => {
+                Head::new([144, driver2, driver1, driver0])
+            }
+            Command::Leds(bits, color, intensity) => Head::new([139, bits, color, intensity]),
+            Command::Outputs(bits) => Head::new([147, bits]),
+            Command::Infrared(code) => Head::new([151, code]),
+            Command::Song(song, notes) => Head::new([140, song, notes]),
+            Command::Play(song) => Head::new([141, song]),
+            Command::Sensors(id) => Head::new([142, id]),
+            Command::QueryList(ids) => Head::new([149, ids]),
+            Command::Stream(ids) => Head::new([148, ids]),
+            Command::Pause(on) => Head::new([150, on]),
+            Command::Unknown(op) | Command::NotOffered(op) => Head::new([op]),
+        }
+    }
 }
 
 // How many of a count's notes or ids are there: past a legal count none is stored.
@@ -133,188 +195,105 @@ fn stored_count(count: u8) -> usize
     if count > frame::LEGAL_COUNT {
         return 0;
     }
-    count as usize
+    usize::from(count)
 }
 
-// How many bytes of the payload a command uses.
-fn payload_size(command: Command) -> usize
-    ensures { result ≡ payload_size command }
-{
-    match command {
-        Command::Song(_, notes) => 2 * stored_count(notes),
-        Command::QueryList(ids) => stored_count(ids),
-        Command::Stream(ids) => stored_count(ids),
-        _ => 0,
+impl Command {
+    // How many bytes of the payload a command uses.
+    fn payload_size(self) -> usize
+        ensures { result ≡ payload_size self }
+    {
+        match self {
+            Command::Song(_, notes) => 2 * stored_count(notes),
+            Command::QueryList(ids) | Command::Stream(ids) => stored_count(ids),
+            _ => 0,
+        }
     }
 }
 
-// The bytes before the payload, of a command of no numbers, of one to three bytes, and of two
-// sixteen-bit numbers.
-fn head0(op: u8) -> Head
-    ensures { result ≡ headed (op ∷ []) }
-{
-    Head {
-        bytes: [op, 0, 0, 0, 0],
-        size: 1,
+impl Message {
+    // The places of the payload in use.
+    fn used(&self) -> &[u8]
+        ensures { result.now ≡ payload_in self.now }
+    {
+        &self.payload[..self.command.payload_size()]
     }
 }
 
-fn head1(op: u8, a: u8) -> Head
-    ensures { result ≡ headed (op ∷ a ∷ []) }
-{
-    Head {
-        bytes: [op, a, 0, 0, 0],
-        size: 2,
-    }
-}
+// The command that the first bytes of a frame say.
+impl From<[u8; 5]> for Command {
+    ghost from_gives = { λ bytes command. command ≡ command_of bytes };
 
-fn head2(op: u8, a: u8, b: u8) -> Head
-    ensures { result ≡ headed (op ∷ a ∷ b ∷ []) }
-{
-    Head {
-        bytes: [op, a, b, 0, 0],
-        size: 3,
-    }
-}
-
-fn head3(op: u8, a: u8, b: u8, c: u8) -> Head
-    ensures { result ≡ headed (op ∷ a ∷ b ∷ c ∷ []) }
-{
-    Head {
-        bytes: [op, a, b, c, 0],
-        size: 4,
-    }
-}
-
-fn head_words(op: u8, a: i16, b: i16) -> Head
-    ensures { result ≡ headed (op ∷ (be16 a ++ be16 b)) }
-{
-    Head {
-        bytes: [
-            op,
-            wire::high16(a),
-            wire::low16(a),
-            wire::high16(b),
-            wire::low16(b),
-        ],
-        size: 5,
-    }
-}
-
-fn head_of(command: Command) -> Head
-    ensures { result ≡ headed (head_of command) }
-{
-    match command {
-        Command::Start => head0(128),
-        Command::Baud(code) => head1(129, code),
-        Command::Control => head0(130),
-        Command::Safe => head0(131),
-        Command::Full => head0(132),
-        Command::Power => head0(133),
-        Command::Demo(demo) => head1(136, wire::low16(wire::widen(demo))),
-        Command::Spot => head0(134),
-        Command::Cover => head0(135),
-        Command::Dock => head0(143),
-        Command::Drive(velocity, radius) => head_words(137, velocity, radius),
-        Command::Direct(right, left) => head_words(145, right, left),
-        Command::Drivers(bits) => head1(138, bits),
-        Command::Duties(driver2, driver1, driver0) => head3(144, driver2, driver1, driver0),
-        Command::Leds(bits, color, intensity) => head3(139, bits, color, intensity),
-        Command::Outputs(bits) => head1(147, bits),
-        Command::Infrared(code) => head1(151, code),
-        Command::Song(song, notes) => head2(140, song, notes),
-        Command::Play(song) => head1(141, song),
-        Command::Sensors(id) => head1(142, id),
-        Command::QueryList(ids) => head1(149, ids),
-        Command::Stream(ids) => head1(148, ids),
-        Command::Pause(on) => head1(150, on),
-        Command::Unknown(op) => head0(op),
-        Command::NotOffered(op) => head0(op),
-    }
-}
-
-// The command that a frame's bytes say.
-fn command_of(bytes: [u8; 35]) -> Command
-    ensures { result ≡ command_of bytes }
-{
-    let op = bytes[0];
-    let a = bytes[1];
-    let b = bytes[2];
-    let c = bytes[3];
-    let d = bytes[4];
-    match op {
-        128 => Command::Start,
-        129 => Command::Baud(a),
-        130 => Command::Control,
-        131 => Command::Safe,
-        132 => Command::Full,
-        133 => Command::Power,
-        136 => Command::Demo(wire::read8(a)),
-        134 => Command::Spot,
-        135 => Command::Cover,
-        143 => Command::Dock,
-        137 => Command::Drive(wire::read16(a, b), wire::read16(c, d)),
-        145 => Command::Direct(wire::read16(a, b), wire::read16(c, d)),
-        138 => Command::Drivers(a),
-        144 => Command::Duties(a, b, c),
-        139 => Command::Leds(a, b, c),
-        147 => Command::Outputs(a),
-        151 => Command::Infrared(a),
-        140 => Command::Song(a, b),
-        141 => Command::Play(a),
-        142 => Command::Sensors(a),
-        149 => Command::QueryList(a),
-        148 => Command::Stream(a),
-        150 => Command::Pause(a),
-        152..=158 => Command::NotOffered(op),
-        _ => Command::Unknown(op),
+    #[tactic(auto, unfolding(crate::specs::Layout::command_of))]
+    fn from(bytes: [u8; 5]) -> Command {
+        let [op, a, b, c, d] = bytes;
+        match op {
+            128 => Command::Start,
+            129 => Command::Baud(a),
+            130 => Command::Control,
+            131 => Command::Safe,
+            132 => Command::Full,
+            133 => Command::Power,
+            136 => Command::Demo(wire::read8(a)),
+            134 => Command::Spot,
+            135 => Command::Cover,
+            143 => Command::Dock,
+            137 => Command::Drive(wire::read16(a, b), wire::read16(c, d)),
+            145 => Command::Direct(wire::read16(a, b), wire::read16(c, d)),
+            138 => Command::Drivers(a),
+            144 => Command::Duties(a, b, c),
+            139 => Command::Leds(a, b, c),
+            147 => Command::Outputs(a),
+            151 => Command::Infrared(a),
+            140 => Command::Song(a, b),
+            141 => Command::Play(a),
+            142 => Command::Sensors(a),
+            149 => Command::QueryList(a),
+            148 => Command::Stream(a),
+            150 => Command::Pause(a),
+            152..=158 => Command::NotOffered(op),
+            _ => Command::Unknown(op),
+        }
     }
 }
 
 // The message of a complete frame. What it gives past a legal count is free (rule Q6): it is a
-// payload of which no place is in use, all 0.
+// payload of which no place is in use, all 0. Neither this nor `message_of` is a From: the pages
+// and the crates above name both, and a second name would say no more.
+#[tactic(auto, unfolding(crate::specs::Layout::command_of, crate::specs::Layout::decode_of))]
 pub fn decode(bytes: [u8; 35]) -> Message
     ensures { result ≡ decode_of bytes }
 {
-    let command = command_of(bytes);
-    let head = head_of(command);
-    let size = payload_size(command);
+    let command = Command::from([bytes[0], bytes[1], bytes[2], bytes[3], bytes[4]]);
+    let start = Head::from(command).size;
+    let size = command.payload_size();
     let mut payload = [0u8; 32];
-    wire::put_part(&bytes, head.size, size, &mut payload, 0);
+    wire::put(&bytes[start..start + size], &mut payload, 0);
     Message { command, payload }
 }
 
 // The first bytes of the frame that fields say.
-fn opening_of(fields: Fields) -> [u8; 35]
-    ensures { result ≡ padded 35 (opening_of fields) }
+fn opening_of(fields: Fields) -> Head
+    ensures { result ≡ headed (opening_of fields) }
 {
-    let op = fields.opcode;
-    let mut bytes = [0u8; 35];
-    bytes[0] = op;
-    if op == 137 || op == 145 {
-        bytes[1] = wire::high16(fields.first);
-        bytes[2] = wire::low16(fields.first);
-        bytes[3] = wire::high16(fields.second);
-        bytes[4] = wire::low16(fields.second);
-        return bytes;
+    match fields.opcode {
+        137 | 145 => Head::words(fields.opcode, fields.first, fields.second),
+        _ => Head::new([fields.opcode, fields.a, fields.b, fields.c]),
     }
-    bytes[1] = fields.a;
-    bytes[2] = fields.b;
-    bytes[3] = fields.c;
-    bytes
 }
 
 // The message of flat fields.
+#[tactic(auto, unfolding(crate::specs::Layout::command_of, crate::specs::Fields::message_of))]
 pub fn message_of(fields: Fields) -> Message
     ensures { result ≡ message_of fields }
 {
-    let command = command_of(opening_of(fields));
+    let command = Command::from(opening_of(fields).bytes);
     let payload = fields.payload;
     Message { command, payload }
 }
 
-// The last legal code for the serial speed, digital outputs, song number and duty. A state record
-// keeps such numbers too, and its check uses these names.
+// The last legal code for the serial speed, digital outputs, song number and duty. They are
+// numbers, as in the state record, which crosses to C; its check uses these names.
 pub const LAST_BAUD: u8 = 11;
 
 pub const LAST_OUTPUTS: u8 = 7;
@@ -323,63 +302,54 @@ pub const LAST_SONG: u8 = 15;
 
 pub const FULL_DUTY: u8 = 128;
 
-// From a first number to a last one.
-fn is_in(first: i16, last: i16, v: i16) -> bool
-    ensures { result ≡ is_in (first to last) v }
-{
-    first <= v && v <= last
-}
-
 // Whether a velocity is legal.
+#[tactic(auto, unfolding(crate::specs::CommandTable::is_in, crate::specs::CommandTable::is_legal))]
 pub fn is_speed(v: i16) -> bool
     ensures { result ≡ is_legal speed v }
 {
-    is_in(-500, 500, v)
+    matches!(v, -500..=500)
 }
 
 // Whether a radius is.
+#[tactic(auto, unfolding(crate::specs::CommandTable::is_in, crate::specs::CommandTable::is_legal))]
 pub fn is_radius(v: i16) -> bool
     ensures { result ≡ is_legal radius v }
 {
-    is_in(-2000, -1, v)
-        || (is_in(1, 2000, v) || (is_in(32767, 32767, v) || is_in(-32768, -32768, v)))
+    matches!(v, -2000..=-1 | 1..=2000 | 32767 | -32768)
 }
 
 // Whether the data are legal. What it gives for a variant that is refused as such is free (rule
 // Q6): none has legal data.
+#[tactic(auto, unfolding(crate::specs::CommandTable::is_in, crate::specs::CommandTable::is_legal, crate::specs::CommandTable::row_of, crate::specs::CommandTable::legal_of))]
 pub fn legal(message: Message) -> bool
     ensures { result ≡ legal_of message }
 {
-    let command = message.command;
-    let payload = message.payload;
-    let n = payload_size(command);
-    let used = &payload[0..n];
-    match command {
+    match message.command {
         Command::Baud(code) => code <= LAST_BAUD,
-        Command::Demo(demo) => is_in(-1, 9, wire::widen(demo)),
+        Command::Demo(demo) => matches!(demo, -1..=9),
         Command::Drive(velocity, radius) => is_speed(velocity) && is_radius(radius),
         Command::Direct(right, left) => is_speed(right) && is_speed(left),
         Command::Drivers(bits) => bits <= 7,
-        Command::Duties(driver2, driver1, driver0) => driver2 <= FULL_DUTY
-            && (driver1 <= FULL_DUTY && driver0 <= FULL_DUTY),
-        // Any bytes. They are named, since the proof needs that each is one.
-        Command::Leds(_bits, _color, _intensity) => true,
+        Command::Duties(driver2, driver1, driver0) => {
+            driver2 <= FULL_DUTY && driver1 <= FULL_DUTY && driver0 <= FULL_DUTY
+        }
         Command::Outputs(bits) => bits <= LAST_OUTPUTS,
-        Command::Infrared(_code) => true,
-        Command::Song(song, notes) => song <= LAST_SONG
-            && (1 <= notes && notes <= frame::LEGAL_COUNT),
+        Command::Song(song, notes) => {
+            song <= LAST_SONG && 1 <= notes && notes <= frame::LEGAL_COUNT
+        }
         Command::Play(song) => song <= LAST_SONG,
         Command::Sensors(id) => id <= packet::LAST_ID,
-        Command::QueryList(ids) => ids <= frame::LEGAL_COUNT && packet::listable(used),
-        Command::Stream(ids) => ids <= frame::LEGAL_COUNT && packet::streamable(used),
+        Command::QueryList(ids) => ids <= frame::LEGAL_COUNT && packet::listable(message.used()),
+        Command::Stream(ids) => ids <= frame::LEGAL_COUNT && packet::streamable(message.used()),
         Command::Pause(on) => on <= 1,
-        Command::Unknown(_) => false,
-        Command::NotOffered(_) => false,
+        Command::Unknown(_) | Command::NotOffered(_) => false,
+        // No data, or any bytes.
         _ => true,
     }
 }
 
-// The modes, as packet 35 sends them.
+// The modes, as packet 35 sends them. They are numbers, and no enum: so the state record, which
+// crosses to C, keeps a mode, and `allowed` tells of any byte.
 pub const OFF: u8 = 0;
 
 pub const PASSIVE: u8 = 1;
@@ -388,15 +358,9 @@ pub const SAFE: u8 = 2;
 
 pub const FULL: u8 = 3;
 
-// A mode from this one to Full.
-fn from_mode(first: u8, mode: u8) -> bool
-    ensures { result ≡ within first 3 mode }
-{
-    first <= mode && mode <= FULL
-}
-
 // Whether a command is for this mode. What it gives for a variant that is refused as such is free
 // (rule Q6): it is for none.
+#[tactic(auto, unfolding(crate::specs::CommandTable::row_of, crate::specs::CommandTable::allowed_of))]
 pub fn allowed(command: Command, mode: u8) -> bool
     ensures { result ≡ allowed_of command mode }
 {
@@ -411,29 +375,25 @@ pub fn allowed(command: Command, mode: u8) -> bool
         | Command::Leds(_, _, _)
         | Command::Outputs(_)
         | Command::Infrared(_)
-        | Command::Play(_) => from_mode(SAFE, mode),
+        | Command::Play(_) => matches!(mode, SAFE..=FULL),
         Command::Unknown(_) | Command::NotOffered(_) => false,
-        _ => from_mode(PASSIVE, mode),
+        _ => matches!(mode, PASSIVE..=FULL),
     }
 }
 
 // The host-side writer: 4 for anything that isn't an offered command with legal data, then 7 for a
 // frame longer than the buffer, then the frame. It asks no mode.
-pub fn write(message: Message, buffer: &mut [u8]) -> Sent
+pub fn write(message: Message, buffer: &mut [u8]) -> Result<usize, Refusal>
     ensures { Replied (write_reply message) buffer.old buffer.new result }
 {
     if !legal(message) {
-        return wire::refuse(wire::NOT_LEGAL);
+        return Err(Refusal::NotLegal);
     }
-    let command = message.command;
-    let payload = message.payload;
-    let head = head_of(command);
-    let bytes = head.bytes;
-    let size = payload_size(command);
-    if head.size + size > buffer.len() {
-        return wire::refuse(wire::NO_ROOM);
+    let head = Head::from(message.command);
+    let used = message.used();
+    if head.size + used.len() > buffer.len() {
+        return Err(Refusal::NoRoom);
     }
-    let next = wire::put_part(&bytes, 0, head.size, buffer, 0);
-    let length = wire::put_part(&payload, 0, size, buffer, next);
-    Sent { number: 0, length }
+    let next = wire::put(&head.bytes[..head.size], buffer, 0);
+    Ok(wire::put(used, buffer, next))
 }

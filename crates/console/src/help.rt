@@ -1,9 +1,8 @@
 // What the console's words are.
-use terminal::{Out, say};
+use terminal::Out;
 
-fn say_words(out: &Out) {
-    say(
-        out,
+fn say_words(out: &mut Out) {
+    out.say(
         b"A command by name is written as a host would write it:\n\
         \x20 start, control, safe, full, power, spot, cover, dock, demo -1 (-1 to 9)\n\
         \x20 drive 200 500 (velocity, radius), direct 500 -500 (right, left)\n\
@@ -20,9 +19,8 @@ fn say_words(out: &Out) {
     );
 }
 
-fn say_settings(out: &Out) {
-    say(
-        out,
+fn say_settings(out: &mut Out) {
+    out.say(
         b"The record, and what is lent:\n\
         \x20 state                       the whole record\n\
         \x20 set mode 2 order 1 ..       parts of the record by name, so bad records too:\n\
@@ -40,11 +38,10 @@ fn say_settings(out: &Out) {
     );
 }
 
-pub fn say_help(out: &Out) {
+pub fn say_help(out: &mut Out) {
     say_words(out);
     say_settings(out);
-    say(
-        out,
+    out.say(
         b"In Safe, drop and charger stop the base, and so does a cliff that it moves into: a drive\n\
         forwards, or backwards on a radius strictly between -165 and 165; a direct with a wheel\n\
         above 0, or with neither, the two different, and 129 times their sum below 165 times their\n\

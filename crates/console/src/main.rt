@@ -12,120 +12,108 @@ mod send;
 mod session;
 mod show;
 mod stop;
-mod texts;
 
-use session::Session;
+use session::{Next, Session};
 use std::env::FillError;
 use std::io::{IsTerminal, Stdin};
 use std::rt::Env;
-use terminal::{Line, Out, say_shown, within};
-use texts::{ARGUMENT, LONG, NO_INPUT, PROMPT, UNREADABLE, WELCOME, tell_one, tell_plain};
+use terminal::{Input, Out, Shown, Text, Unread, Write, say};
 
 // The most bytes of a line that are read.
 const LONGEST: usize = 4096;
 
-const HASH: u8 = 35;
-
-const BLANK: u8 = 32;
-
 // Where the last word ends that stands before a comment.
 fn words_end(text: &[u8]) -> usize {
-    let mut end = 0;
-    let mut i = 0;
-    while i < text.len() {
-        if text[i] == HASH {
-            break;
+    let end = text.iter().position(|&b| b == b'#').unwrap_or(text.len());
+    match text[..end].iter().rposition(|&b| b > b' ') {
+        Some(last) => last + 1,
+        None => 0,
+    }
+}
+
+// A line without its comment and the blanks at its end. A bad one has been told, and the next is
+// read.
+fn take_line(out: &mut Out, session: &mut Session, line: Text<'_>) -> Next {
+    let text = line.up_to(words_end(line.bytes));
+    perform::read_line(out, session, &text).unwrap_or(Next::Line)
+}
+
+// A line, or why there is none where a person would not know it; `number` is the last line's.
+fn take(
+    out: &mut Out,
+    session: &mut Session,
+    came: Result<Option<Text<'_>>, Unread>,
+    number: usize,
+) -> Next {
+    match came {
+        Ok(Some(line)) => return take_line(out, session, line),
+        Ok(None) if number == 0 => say!(out, "no input: nothing was read\n"),
+        Ok(None) => {}
+        Err(Unread::Failed) => say!(out, "standard input cannot be read\n"),
+        Err(Unread::TooLong) => {
+            say!(
+                out,
+                "line {number}: longer than {LONGEST} bytes, and not read\n"
+            );
+            return Next::Line;
         }
-        if text[i] > BLANK {
-            end = i + 1;
-        }
-        i += 1;
     }
-    end
+    Next::End
 }
 
-// A line without its comment and the blanks at its end.
-fn take_text(out: &Out, session: Session, text: &[u8]) -> Session {
-    let end = within(words_end(text), text);
-    perform::read_line(out, session, &text[0..end])
-}
-
-fn take_line(out: &Out, session: Session, text: &[u8], next: Line) -> Session {
-    let mut now = session;
-    let input = next.input;
-    now.line_number = input.line_number;
-    now.bad = false;
-    if next.cut {
-        tell_one(out, LONG, now.line_number);
-        return now;
-    }
-    let n = within(next.size, text);
-    take_text(out, now, &text[0..n])
-}
-
-// Why there is no further line, where a person would not know it.
-fn finish(out: &Out, came: u8, line_number: usize) {
-    if came == terminal::FAILED {
-        tell_plain(out, UNREADABLE);
-    } else if line_number == 0 {
-        tell_plain(out, NO_INPUT);
-    }
-}
-
-fn prompt(out: &Out, asks: bool) {
+// A prompt is answered by a line, so that what comes next begins one.
+fn prompt(out: &mut Out, asks: bool) {
     if asks {
-        tell_plain(out, PROMPT);
+        say!(out, "> ");
+        out.begin_line();
     }
 }
 
-// A proved loop has to end, and nothing says that the input does: the turns count down from a
-// number that no run uses up.
-fn read_all(out: &Out, session: Session, stdin: Stdin, asks: bool) {
-    let mut space = [0u8; LONGEST];
-    let text: &mut [u8] = &mut space;
-    let mut now = session;
-    let mut input = terminal::open(stdin);
-    let mut turns = u64::MAX;
-    while turns > 0 {
+// A proved loop has to end, and nothing says that the input does: the turns count up to a number
+// that no run reaches.
+fn read_all(out: &mut Out, stdin: Stdin, asks: bool) {
+    let mut session = Session::new();
+    let mut room = [0u8; LONGEST];
+    let mut input = Input::new(stdin);
+    for _ in 0..u64::MAX {
         prompt(out, asks);
-        let next = terminal::next_line(input, text);
-        if next.came != terminal::LINE {
-            finish(out, next.came, now.line_number);
+        let came = input.next_line(out, &mut room);
+        if take(out, &mut session, came, input.number()) == Next::End {
             return;
         }
-        now = take_line(out, now, text, next);
-        if now.over {
-            return;
-        }
-        input = next.input;
-        turns -= 1;
     }
 }
 
 // The console takes no argument; one is told, and what it takes instead.
-fn say_argument(out: &Out, word: &[u8]) {
-    if wire::same(word, b"--help") {
-        help::say_help(out);
-        return;
+fn say_argument(out: &mut Out, word: &[u8]) {
+    match word {
+        b"--help" => help::say_help(out),
+        _ => say!(
+            out,
+            "{}: the console knows no such argument; it reads lines, and `help` lists its words\n",
+            Shown(word)
+        ),
     }
-    say_shown(out, word);
-    tell_plain(out, ARGUMENT);
 }
 
-fn begin(out: &Out, stdin: Stdin) {
+fn begin(out: &mut Out, stdin: Stdin) {
     let asks = stdin.is_terminal();
     if asks {
-        tell_plain(out, WELCOME);
+        say!(
+            out,
+            "A board at power-on. `help` lists the words, `quit` ends it.\n"
+        );
     }
-    read_all(out, session::opened(), stdin, asks);
+    read_all(out, stdin, asks);
 }
 
 fn main(rt: HostRuntime) {
-    let out = Out::new();
+    let mut out = Out::new();
     let mut word = [0u8; 64];
     match rt.arg(1, &mut word) {
-        Ok(n) => say_argument(&out, &word[..n]),
-        Err(FillError::TooLong) => say_argument(&out, b""),
-        Err(FillError::NotPresent) => begin(&out, rt.stdin()),
+        Ok(n) => say_argument(&mut out, &word[..n]),
+        Err(FillError::TooLong) => say_argument(&mut out, b""),
+        Err(FillError::NotPresent) => begin(&mut out, rt.stdin()),
     }
+    out.flush();
 }

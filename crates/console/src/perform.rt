@@ -1,320 +1,257 @@
 // A line, by its first word.
-use crate::session::{NONE, Session, failed, with_state, with_typed};
-use crate::show::{one_if, say_drive};
-use crate::texts::{
-    AGAIN, IMAGE, LINE_END, NO_FLAG, NO_ROOM, NO_TIMES, NO_WORD, POWER_ON, ROOM, SWITCH, tell_one,
-    tell_plain, tell_three,
-};
+use crate::session::{MOST_ROOM, Next, Repeat, Report, Session};
+use crate::show::Drive;
 use crate::{calls, help, record, send, stop};
-use line::Number;
-use terminal::{Out, bytes_from, say_shown, say_wanted, say_where, within};
-
-const MOST_ROOM: usize = 1024;
+use line::{NoNumber, Word};
+use terminal::{Out, Shown, Text, Told, Write, say};
 
 const MOST_TURNS: usize = 1000;
 
-// A word that is bad, by the place where it stands.
-fn say_bad(
-    out: &Out,
-    session: Session,
-    text: &[u8],
-    start: usize,
-    end: usize,
-    why: usize,
-) -> Session {
-    say_where(out, session.line_number, start);
-    let to = within(end, text);
-    if start <= to {
-        say_shown(out, &text[start..to]);
+// A word that stands alone on its line.
+#[derive(Clone, Copy, Debug, PartialEq, Eq)]
+enum Alone {
+    Tick,
+    SongEnd,
+    PowerOn,
+    Stop,
+    State,
+    Accepts,
+    Help,
+    Verbose,
+    Raw,
+    Quit,
+}
+
+fn alone_named(word: &[u8]) -> Option<Alone> {
+    match word {
+        b"tick" => Some(Alone::Tick),
+        b"song-end" => Some(Alone::SongEnd),
+        b"power-on" => Some(Alone::PowerOn),
+        b"stop" => Some(Alone::Stop),
+        b"state" => Some(Alone::State),
+        b"accepts?" => Some(Alone::Accepts),
+        b"help" | b"?" => Some(Alone::Help),
+        b"verbose" => Some(Alone::Verbose),
+        b"raw" => Some(Alone::Raw),
+        b"quit" => Some(Alone::Quit),
+        _ => None,
     }
-    tell_plain(out, why);
-    failed(session)
+}
+
+// A line, or what stands after `repeat`: its first word, what follows that, and all of it as it was
+// typed.
+#[derive(Clone, Copy)]
+pub struct Line<'a> {
+    pub first: Word<'a>,
+    pub rest: Text<'a>,
+    pub typed: &'a [u8],
+}
+
+impl<'a> Line<'a> {
+    // None where no word is left.
+    fn new(text: &Text<'a>) -> Option<Line<'a>> {
+        let mut rest = *text;
+        let first = rest.word()?;
+        let typed = text.bytes.get(first.start..).unwrap_or(first.bytes);
+        Some(Line { first, rest, typed })
+    }
+}
+
+// A word that is bad, by the place where it stands.
+fn say_bad(out: &mut Out, text: &Text<'_>, word: Word<'_>, why: &str) -> Told {
+    text.say_where(out, word.start);
+    say!(out, "{} {why}\n", Shown(word.bytes));
+    Told
 }
 
 // What a word wants, which it has not.
-fn say_wants(out: &Out, session: Session, place: usize, what: usize) -> Session {
-    say_where(out, session.line_number, place);
-    tell_plain(out, what);
-    failed(session)
+fn say_wants(out: &mut Out, text: &Text<'_>, place: usize, wants: &str) -> Told {
+    text.say_where(out, place);
+    say!(out, "{wants}\n");
+    Told
 }
 
-// The words after `report`: which of the three it has; another word is bad.
-#[derive(Clone, Copy)]
-struct Flags {
-    drop: bool,
-    cliff: bool,
-    charger: bool,
-    ok: bool,
-}
-
-fn read_flag(flags: Flags, word: &[u8]) -> Flags {
-    let mut next = flags;
-    match terminal::which(word, b"drop cliff charger") {
-        0 => next.drop = true,
-        1 => next.cliff = true,
-        2 => next.charger = true,
-        _ => next.ok = false,
-    }
-    next
-}
-
-fn report(out: &Out, session: Session, text: &[u8], from: usize) -> Session {
-    let mut flags = Flags {
+// The words after `report`: which of the three it has; another word is bad. A proved loop has to
+// end, and a line has no more words than bytes.
+fn report_from(out: &mut Out, text: &mut Text<'_>) -> Result<Report, Told> {
+    let mut report = Report {
         drop: false,
         cliff: false,
         charger: false,
-        ok: true,
     };
-    let mut at = from;
-    let mut turns = text.len();
-    while turns > 0 {
-        let word = line::next_word(text, at);
-        let start = word.start;
-        let end = word.end;
-        if start == end {
+    for _ in 0..=text.bytes.len() {
+        let Some(word) = text.word() else {
             break;
+        };
+        match word.bytes {
+            b"drop" => report.drop = true,
+            b"cliff" => report.cliff = true,
+            b"charger" => report.charger = true,
+            _ => return Err(say_bad(out, text, word, "is none of drop, cliff and charger")),
         }
-        flags = read_flag(flags, &text[start..end]);
-        if !flags.ok {
-            return say_bad(out, session, text, start, end, NO_FLAG);
-        }
-        at = end;
-        turns -= 1;
     }
-    calls::give_report(out, session, flags.drop, flags.cliff, flags.charger)
+    Ok(report)
 }
 
-// The number that a word says, and the place after it; above 65535 where it says none.
-#[derive(Clone, Copy)]
-struct Count {
-    value: usize,
-    start: usize,
-    next: usize,
+// The number that the next word says, up to a most.
+fn count(text: &mut Text<'_>, most: usize) -> Option<usize> {
+    let word = text.word()?;
+    let n = line::unsigned(word.bytes).ok()?;
+    (n <= most).then_some(n)
 }
 
-fn count_from(text: &[u8], from: usize) -> Count {
-    let word = line::next_word(text, from);
-    let start = word.start;
-    let end = word.end;
-    let number = line::signed(&text[start..end]);
-    let value = match number {
-        Number::Plain(n) => n,
-        _ => 65536,
+fn set_room(out: &mut Out, session: &mut Session, text: &mut Text<'_>) -> Result<(), Told> {
+    let place = text.place();
+    let Some(room) = count(text, MOST_ROOM) else {
+        return Err(say_wants(out, text, place, "room wants a number from 0 to 1024"));
     };
-    Count {
-        value,
-        start,
-        next: end,
-    }
+    text.ends(out)?;
+    say!(out, "room is {room}\n");
+    session.room = room;
+    Ok(())
 }
 
-fn set_room(out: &Out, session: Session, text: &[u8], from: usize) -> Session {
-    let room = count_from(text, from);
-    if room.value > MOST_ROOM {
-        return say_wants(out, session, room.start, NO_ROOM);
+fn set_image(out: &mut Out, session: &mut Session, text: &mut Text<'_>) -> Result<(), Told> {
+    let place = text.at;
+    let bytes = text.numbers(out)?;
+    if bytes.len() != session.image.len() {
+        text.say_wanted(out, place, session.image.len(), bytes.len());
+        return Err(Told);
     }
-    if !terminal::ends(out, text, room.next, session.line_number) {
-        return failed(session);
-    }
-    tell_one(out, ROOM, room.value);
-    let mut next = session;
-    next.room = room.value;
-    next
+    session.image.copy_from_slice(bytes.as_slice());
+    say!(out, "image is set\n");
+    Ok(())
 }
 
-fn first_forty(values: [u8; 512]) -> [u8; 40] {
-    let mut image = [0u8; 40];
-    let mut i = 0;
-    while i < 40 {
-        image[i] = values[i];
-        i += 1;
-    }
-    image
-}
-
-fn set_image(out: &Out, session: Session, text: &[u8], from: usize) -> Session {
-    let bytes = bytes_from(out, text, from, session.line_number);
-    if !bytes.ok {
-        return failed(session);
-    }
-    if bytes.count != 40 {
-        say_wanted(out, session.line_number, from, 40, bytes.count);
-        return failed(session);
-    }
-    let values = bytes.values;
-    let image = first_forty(values);
-    tell_plain(out, IMAGE);
-    let mut next = session;
-    next.image = image;
-    next
-}
-
-// Bytes, all frames of them, or in one run.
-fn give(out: &Out, session: Session, text: &[u8], from: usize, whole: bool) -> Session {
-    let bytes = bytes_from(out, text, from, session.line_number);
-    if !bytes.ok {
-        return failed(session);
-    }
-    let values = bytes.values;
-    if whole {
-        return calls::give_run(out, session, values, bytes.count);
-    }
-    calls::give_bytes(out, session, values, bytes.count)
-}
-
-fn power_on(out: &Out, session: Session) -> Session {
-    let state = state::power_on();
-    tell_plain(out, POWER_ON);
-    say_drive(out, state);
-    tell_plain(out, LINE_END);
-    with_state(session, state)
+fn power_on(out: &mut Out, session: &mut Session) {
+    session.state = state::power_on();
+    say!(out, "power-on: {}\n", Drive(&session.state));
 }
 
 // Each is undone by saying it again.
-fn switch(out: &Out, session: Session, raw: bool) -> Session {
-    let mut next = session;
-    if raw {
-        next.raw = !session.raw;
-        tell_three(out, SWITCH, 1, one_if(next.raw), 0);
-    } else {
-        next.verbose = !session.verbose;
-        tell_three(out, SWITCH, 0, one_if(next.verbose), 0);
-    }
-    next
+fn switch(out: &mut Out, name: &str, is: &mut bool) {
+    *is = !*is;
+    say!(out, "{name} is {}\n", if *is { "on" } else { "off" });
 }
 
-// A word that stands alone on its line, by its place among the names below.
-fn alone(out: &Out, session: Session, kind: usize) -> Session {
-    let state = session.state;
-    match kind {
-        0 => calls::give_tick(out, session),
-        1 => calls::give_song_end(out, session),
-        2 => power_on(out, session),
-        3 => stop::stop(out, session),
-        4 => {
-            record::say_state(out, state);
-            session
+fn song_end(out: &mut Out, session: &mut Session, typed: &[u8]) {
+    let came = session.song_end();
+    calls::say_call(out, session, typed, &came);
+}
+
+// What a word that stands alone says is done; the last one ends the session.
+fn carry_out(out: &mut Out, session: &mut Session, word: Alone, typed: &[u8]) -> Next {
+    match word {
+        Alone::Tick => calls::give_tick(out, session, typed),
+        Alone::SongEnd => song_end(out, session, typed),
+        Alone::PowerOn => power_on(out, session),
+        Alone::Stop => stop::stop(out, session),
+        Alone::State => record::say_state(out, &session.state),
+        Alone::Accepts => record::say_accepts(out, &session.state),
+        Alone::Help => help::say_help(out),
+        Alone::Verbose => switch(out, "verbose", &mut session.verbose),
+        Alone::Raw => switch(out, "raw", &mut session.raw),
+        Alone::Quit => return Next::End,
+    }
+    Next::Line
+}
+
+// A word that takes others after it.
+fn with_words(out: &mut Out, session: &mut Session, line: &mut Line<'_>) -> Result<(), Told> {
+    let text = &mut line.rest;
+    match line.first.bytes {
+        b"bytes" => {
+            let bytes = text.numbers(out)?;
+            calls::give_bytes(out, session, line.typed, bytes.as_slice());
         }
-        5 => {
-            record::say_accepts(out, state);
-            session
+        b"run" => {
+            let bytes = text.numbers(out)?;
+            calls::give_run(out, session, line.typed, bytes.as_slice());
         }
-        6 | 7 => {
-            help::say_help(out);
-            session
+        b"report" => {
+            let came = session.report(report_from(out, text)?);
+            calls::say_call(out, session, line.typed, &came);
         }
-        8 | 9 => switch(out, session, kind == 9),
+        b"room" => set_room(out, session, text)?,
+        b"image" => set_image(out, session, text)?,
+        b"set" => record::set(out, session, text)?,
         _ => {
-            let mut next = session;
-            next.over = true;
-            next
+            let why = "is no word of this console: help lists them";
+            return Err(say_bad(out, text, line.first, why));
         }
     }
+    Ok(())
 }
 
-// A word that takes others after it, or a command's name.
-fn with_words(
-    out: &Out,
-    session: Session,
-    text: &[u8],
-    start: usize,
-    end: usize,
-    kind: usize,
-) -> Session {
-    match kind {
-        0 => give(out, session, text, end, false),
-        1 => give(out, session, text, end, true),
-        2 => report(out, session, text, end),
-        3 => set_room(out, session, text, end),
-        4 => set_image(out, session, text, end),
-        5 => record::set(out, session, text, end),
-        _ => say_bad(out, session, text, start, end, NO_WORD),
+fn by_word(out: &mut Out, session: &mut Session, line: &mut Line<'_>) -> Result<Next, Told> {
+    if let Some(op) = words::opcode_named(line.first.bytes) {
+        send::command(out, session, op, line)?;
+        return Ok(Next::Line);
     }
-}
-
-fn by_word(
-    out: &Out,
-    session: Session,
-    text: &[u8],
-    word: &[u8],
-    start: usize,
-    end: usize,
-) -> Session {
-    let op = words::opcode_named(word);
-    if op != 0 {
-        return send::command(out, session, op, text, start, end);
-    }
-    let kind = terminal::which(
-        word,
-        b"tick song-end power-on stop state accepts? help ? verbose raw quit",
-    );
-    if kind > 10 {
-        let taking = terminal::which(word, b"bytes run report room image set");
-        return with_words(out, session, text, start, end, taking);
-    }
-    if !terminal::ends(out, text, end, session.line_number) {
-        return failed(session);
-    }
-    alone(out, session, kind)
+    let Some(named) = alone_named(line.first.bytes) else {
+        with_words(out, session, line)?;
+        return Ok(Next::Line);
+    };
+    line.rest.ends(out)?;
+    Ok(carry_out(out, session, named, line.typed))
 }
 
 // A line that begins with a number is bytes, and any other goes by its first word.
-fn one_line(out: &Out, before: Session, text: &[u8], from: usize) -> Session {
-    let word = line::next_word(text, from);
-    let start = word.start;
-    let end = word.end;
-    if start == end {
-        return before;
-    }
-    let session = with_typed(before, text, start);
-    let value = line::signed(&text[start..end]);
-    let Number::NotANumber = value else {
-        return give(out, session, text, start, false);
+fn one_line(out: &mut Out, session: &mut Session, text: &Text<'_>) -> Result<Next, Told> {
+    let Some(mut line) = Line::new(text) else {
+        return Ok(Next::Line);
     };
-    by_word(out, session, text, &text[start..end], start, end)
+    if line::signed(line.first.bytes) == Err(NoNumber::NotANumber) {
+        return by_word(out, session, &mut line);
+    }
+    let mut numbers = *text;
+    let bytes = numbers.numbers(out)?;
+    calls::give_bytes(out, session, line.typed, bytes.as_slice());
+    Ok(Next::Line)
 }
 
-// The line from a place on, some times; a bad one ends it.
-fn repeat_line(out: &Out, session: Session, text: &[u8], from: usize, times: usize) -> Session {
-    let mut now = session;
-    now.repeating = true;
-    now.same = 0;
-    now.last = NONE;
-    let mut turns = times;
-    while turns > 0 {
-        now = one_line(out, now, text, from);
-        if now.bad || now.over {
-            break;
+// The line from here on, some times; a bad one ends it.
+fn repeat_line(
+    out: &mut Out,
+    session: &mut Session,
+    text: &Text<'_>,
+    times: usize,
+) -> Result<Next, Told> {
+    for _ in 0..times {
+        if one_line(out, session, text)? == Next::End {
+            return Ok(Next::End);
         }
-        turns -= 1;
     }
-    now.repeating = false;
-    now
+    Ok(Next::Line)
 }
 
-fn repeat(out: &Out, session: Session, text: &[u8], place: usize, from: usize) -> Session {
-    let times = count_from(text, from);
-    if times.value == 0 || times.value > MOST_TURNS {
-        return say_wants(out, session, place, NO_TIMES);
+// A line that begins with `repeat`: how often, and the line itself.
+fn repeat(out: &mut Out, session: &mut Session, line: Line<'_>) -> Result<Next, Told> {
+    let wants = "repeat wants a number from 1 to 1000, and the words of a line";
+    let mut text = line.rest;
+    let Some(times) = count(&mut text, MOST_TURNS).filter(|&n| n > 0) else {
+        return Err(say_wants(out, &text, line.first.start, wants));
+    };
+    if text.peek().is_none() {
+        return Err(say_wants(out, &text, text.place(), wants));
     }
-    let word = line::next_word(text, times.next);
-    if word.start == word.end {
-        return say_wants(out, session, word.start, NO_TIMES);
-    }
-    let next = repeat_line(out, session, text, times.next, times.value);
-    if next.same > 0 {
-        tell_one(out, AGAIN, next.same);
+    session.repeat = Some(Repeat::new());
+    let next = repeat_line(out, session, &text, times);
+    if let Some(repeat) = session.repeat.take()
+        && repeat.same > 0
+    {
+        say!(out, "    and {} times more the same\n", repeat.same);
     }
     next
 }
 
 // A line; an empty one says nothing.
-pub fn read_line(out: &Out, session: Session, text: &[u8]) -> Session {
-    let word = line::next_word(text, 0);
-    let start = word.start;
-    let end = word.end;
-    if wire::same(&text[start..end], b"repeat") {
-        return repeat(out, session, text, start, end);
+pub fn read_line(out: &mut Out, session: &mut Session, text: &Text<'_>) -> Result<Next, Told> {
+    let Some(line) = Line::new(text) else {
+        return Ok(Next::Line);
+    };
+    match line.first.bytes {
+        b"repeat" => repeat(out, session, line),
+        _ => one_line(out, session, text),
     }
-    one_line(out, session, text, 0)
 }

@@ -1,174 +1,158 @@
 // The record itself: set part by part, tested item by item, and shown whole.
-use crate::session::{Session, failed, with_state};
-use crate::show::{one_if, say_drive};
-use crate::texts::{
-    ACCEPTED, BAD, BAUD, HELD, KEPT_BYTES, LINE_END, LIST, NO_PART, NONE, SET, SONGS, SPACE, tell,
-    tell_one, tell_plain, tell_three,
-};
-use frame::Partial;
-use state::{Kept, Motors, Song, Songs, State, Stream};
-use terminal::{Out, say_bytes, say_form, say_number, say_where, wide, within};
-use words::Changed;
+use crate::session::Session;
+use crate::show::Drive;
+use state::{Song, State};
+use std::fmt;
+use terminal::{Listed, Out, Text, Told, Write, say};
 
-// Parts by their names, from a place on; all of them, or the record as it was.
-fn set_parts(out: &Out, state: State, text: &[u8], from: usize, line_number: usize) -> Changed {
-    let mut now = Changed {
-        state,
-        next: from,
-        ok: true,
-    };
-    let mut turns = text.len();
-    while turns > 0 && now.ok {
-        let word = line::next_word(text, now.next);
-        if word.start == word.end {
+// The items of the record's test, in its order, as what breaks them; `state::broken` marks them in
+// the same order.
+const ITEMS: [&str; 16] = [
+    "the mode is none of Off, Passive, Safe and Full",
+    "the wheel order is of no kind: 0 none, 1 Drive, 2 Direct",
+    "in Off and Passive the wheels and the three drivers must be off",
+    "the wheel order is out of range",
+    "a duty is above 128",
+    "the outputs are above 7",
+    "the baud code is above 11",
+    "the selected song is above 15",
+    "the stream list is too long, has an id above 42, or its sizes are more than 255 in all",
+    "a song has more than 16 notes",
+    "a song plays that is not set",
+    "a place of a song behind its notes is not 0",
+    "a place of the stream list behind its ids is not 0",
+    "the frame half read is none that the frame table leaves",
+    "playing is neither 0 nor 1",
+    "streaming is neither 0 nor 1",
+];
+
+// Parts by their names, up to the line's end; all of them, or the record stays as it was. A proved
+// loop has to end, and a line has no more words than bytes.
+pub fn set(out: &mut Out, session: &mut Session, text: &mut Text<'_>) -> Result<(), Told> {
+    if text.peek().is_none() {
+        text.say_where(out, text.at);
+        say!(
+            out,
+            "set wants the name of a part and its value, as in set mode 2\n"
+        );
+        return Err(Told);
+    }
+    let mut state = session.state;
+    for _ in 0..=text.bytes.len() {
+        if text.peek().is_none() {
             break;
         }
-        now = words::set_part(out, now.state, text, now.next, line_number);
-        turns -= 1;
+        words::set_part(out, &mut state, text)?;
     }
-    now
-}
-
-pub fn set(out: &Out, session: Session, text: &[u8], from: usize) -> Session {
-    let word = line::next_word(text, from);
-    if word.start == word.end {
-        say_where(out, session.line_number, from);
-        tell_plain(out, NO_PART);
-        return failed(session);
-    }
-    let state = session.state;
-    let changed = set_parts(out, state, text, from, session.line_number);
-    if !changed.ok {
-        return failed(session);
-    }
-    let after = changed.state;
-    tell_one(out, SET, one_if(!state::accepts(after)));
-    say_drive(out, after);
-    tell_plain(out, LINE_END);
-    with_state(session, after)
-}
-
-// The items of the record's test, in its order, as what breaks them.
-fn say_item(out: &Out, item: usize) {
-    say_form(
-        out,
-        b"    [0 the mode is none of Off, Passive, Safe and Full|\
-        the wheel order is of no kind: 0 none, 1 Drive, 2 Direct|\
-        in Off and Passive the wheels and the three drivers must be off|\
-        the wheel order is out of range|a duty is above 128|the outputs are above 7|\
-        the baud code is above 11|the selected song is above 15|\
-        the stream list is too long, has an id above 42, or its sizes are more than 255 in all|\
-        a song has more than 16 notes|a song plays that is not set|\
-        a place of a song behind its notes is not 0|\
-        a place of the stream list behind its ids is not 0|\
-        the frame half read is none that the frame table leaves|playing is neither 0 nor 1|\
-        streaming is neither 0 nor 1]\n",
-        [item, 0, 0, 0, 0, 0, 0, 0],
-    );
-}
-
-fn say_items(out: &Out, broken: [u8; 16]) {
-    let mut i = 0;
-    while i < 16 {
-        if broken[i] != 0 {
-            say_item(out, i);
-        }
-        i += 1;
-    }
-}
-
-pub fn say_accepts(out: &Out, state: State) {
+    session.state = state;
     if state::accepts(state) {
-        tell_plain(out, ACCEPTED);
+        say!(out, "set: an accepted record; {}\n", Drive(&state));
+    } else {
+        say!(
+            out,
+            "set: a bad record (accepts? tells why); {}\n",
+            Drive(&state)
+        );
+    }
+    Ok(())
+}
+
+pub fn say_accepts(out: &mut Out, state: &State) {
+    if state::accepts(*state) {
+        say!(out, "accepts?: yes\n");
         return;
     }
-    tell_plain(out, BAD);
-    let broken = state::broken(state);
-    say_items(out, broken);
-}
-
-fn say_none(out: &Out, some: bool) {
-    if !some {
-        tell_plain(out, NONE);
+    say!(
+        out,
+        "accepts?: no, a bad record, which every call answers with 8:\n"
+    );
+    for (item, broken) in ITEMS.iter().zip(state::broken(*state)) {
+        if broken != 0 {
+            say!(out, "    {item}\n");
+        }
     }
 }
 
 // The numbers of the songs that are set.
-fn say_set_songs(out: &Out, table: [Song; 16]) {
-    let mut some = false;
-    let mut i = 0;
-    while i < 16 {
-        if table[i].len > 0 {
-            tell_plain(out, SPACE);
-            say_number(out, i);
-            some = true;
-        }
-        i += 1;
-    }
-    say_none(out, some);
-}
+#[derive(Clone, Copy)]
+struct SetSongs<'a>(&'a [Song]);
 
-fn say_songs(out: &Out, songs: Songs) {
-    let table = songs.table;
-    tell_three(out, SONGS, wide(songs.selected), wide(songs.playing), 0);
-    say_set_songs(out, table);
-    tell_plain(out, LINE_END);
+impl fmt::Display for SetSongs<'_> {
+    fn fmt<W: fmt::Write>(&self, f: &mut fmt::Formatter<W>) -> fmt::Result {
+        if self.0.iter().all(|song| song.len == 0) {
+            return f.write_str(" none");
+        }
+        for (i, song) in self.0.iter().enumerate() {
+            if song.len > 0 {
+                write!(f, " {i}")?;
+            }
+        }
+        Ok(())
+    }
 }
 
 // The first of some places, which are in use.
-fn say_used(out: &Out, places: &[u8], count: usize) {
-    let n = within(count, places);
-    say_none(out, n > 0);
-    if n > 0 {
-        tell_plain(out, SPACE);
+#[derive(Clone, Copy)]
+struct Used<'a>(&'a [u8]);
+
+impl<'a> Used<'a> {
+    // As many as a count says, which in a bad record may be any.
+    fn new(places: &'a [u8], count: usize) -> Used<'a> {
+        Used(&places[..count.min(places.len())])
     }
-    say_bytes(out, &places[0..n]);
-    tell_plain(out, LINE_END);
 }
 
-fn say_stream(out: &Out, stream: Stream) {
-    let ids = stream.ids;
-    tell_one(out, LIST, wide(stream.on));
-    say_used(out, &ids, wide(stream.count));
+impl fmt::Display for Used<'_> {
+    fn fmt<W: fmt::Write>(&self, f: &mut fmt::Formatter<W>) -> fmt::Result {
+        match self.0 {
+            [] => f.write_str(" none"),
+            used => write!(f, " {}", Listed::new(used)),
+        }
+    }
 }
 
-fn say_kept(out: &Out, motors: Motors, kept: Kept) {
-    let duties = motors.duties;
-    let leds = kept.leds;
-    tell(
+fn say_kept(out: &mut Out, state: &State) {
+    let duties = Listed::new(&state.motors.duties);
+    let leds = Listed::new(&state.kept.leds);
+    let outputs = state.kept.outputs;
+    say!(
         out,
-        KEPT_BYTES,
-        [
-            wide(duties[0]),
-            wide(duties[1]),
-            wide(duties[2]),
-            wide(leds[0]),
-            wide(leds[1]),
-            wide(leds[2]),
-            wide(kept.outputs),
-            0,
-        ],
+        "    duties of drivers 0, 1 and 2: {duties}; LEDs {leds}; outputs {outputs}\n"
     );
-    tell_three(out, BAUD, wide(kept.baud), wide(kept.ir), 0);
+    say!(
+        out,
+        "    baud code {}, IR byte {}\n",
+        state.kept.baud,
+        state.kept.ir
+    );
 }
 
-fn say_partial(out: &Out, partial: Partial) {
-    let bytes = partial.bytes;
-    tell_three(out, HELD, partial.count, partial.remaining, 0);
-    say_used(out, &bytes, partial.count);
+fn say_stream(out: &mut Out, state: &State) {
+    let list = Used::new(&state.stream.ids, usize::from(state.stream.count));
+    say!(
+        out,
+        "    streaming {}, stream list:{list}\n",
+        state.stream.on
+    );
+}
+
+fn say_partial(out: &mut Out, state: &State) {
+    let (count, remaining) = (state.partial.count, state.partial.remaining);
+    let held = Used::new(&state.partial.bytes, count);
+    say!(out, "    {count} bytes held, {remaining} to come:{held}\n");
 }
 
 // The whole record, for a person who asks for it.
-pub fn say_state(out: &Out, state: State) {
-    let motors = state.motors;
-    let kept = state.kept;
-    let songs = state.songs;
-    let stream = state.stream;
-    let partial = state.partial;
-    say_drive(out, state);
-    tell_plain(out, LINE_END);
-    say_kept(out, motors, kept);
-    say_songs(out, songs);
-    say_stream(out, stream);
-    say_partial(out, partial);
+pub fn say_state(out: &mut Out, state: &State) {
+    say!(out, "{}\n", Drive(state));
+    say_kept(out, state);
+    let songs = &state.songs;
+    let (selected, playing) = (songs.selected, songs.playing);
+    say!(
+        out,
+        "    song selected {selected}, playing {playing}, songs set:{}\n",
+        SetSongs(&songs.table)
+    );
+    say_stream(out, state);
+    say_partial(out, state);
 }

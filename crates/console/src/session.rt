@@ -1,82 +1,155 @@
-// What a line is read with: the record, the image and the room that are lent with each call, the
-// line's number, and how what comes back is shown.
+// What a line is read with: the record, the image and the room that are lent with each call, and
+// how what comes back is shown. The board is called here and nowhere else.
+use board::{Answer, Ran};
 use state::State;
+use wire::Refusal;
 
-#[derive(Clone, Copy)]
+// The longest buffer that is lent, and the one that is lent at first.
+pub const MOST_ROOM: usize = 1024;
+
+const FIRST_ROOM: usize = 832;
+
+// Whether a further line is read.
+#[derive(Clone, Copy, Debug, PartialEq, Eq)]
+pub enum Next {
+    Line,
+    End,
+}
+
+// A safety report.
+#[derive(Clone, Copy, Debug, PartialEq, Eq)]
+pub struct Report {
+    pub drop: bool,
+    pub cliff: bool,
+    pub charger: bool,
+}
+
+// A line that is repeated: what the last call that was shown gave, once there is one, and how often
+// what came back was what had just been shown.
+#[derive(Clone, Copy, Debug, PartialEq, Eq)]
+pub struct Repeat {
+    last: Option<Option<Refusal>>,
+    pub same: usize,
+}
+
+// What a console keeps from line to line. Text goes to `Out`, which stands beside it: half of what
+// is said needs no session.
+#[derive(Drop)]
 pub struct Session {
     pub state: State,
     pub image: [u8; 40],
     pub room: usize,
-    pub line_number: usize,
-    // What was typed, or its beginning, and how long it is.
-    pub typed: [u8; 32],
-    pub size: usize,
     // Every byte is shown; answers are shown as bytes.
     pub verbose: bool,
     pub raw: bool,
-    // The last line was bad; the console is to end.
-    pub bad: bool,
-    pub over: bool,
-    // While a line is repeated: how often what came back was what had just been shown.
-    pub repeating: bool,
-    pub same: usize,
-    pub last: u8,
+    pub repeat: Option<Repeat>,
 }
 
-// The number of no call.
-pub const NONE: u8 = 255;
-
-pub const FIRST_ROOM: usize = 832;
-
-pub fn opened() -> Session {
-    let state = state::power_on();
-    Session {
-        state,
-        image: [0u8; 40],
-        room: FIRST_ROOM,
-        line_number: 0,
-        typed: [0u8; 32],
-        size: 0,
-        verbose: false,
-        raw: false,
-        bad: false,
-        over: false,
-        repeating: false,
-        same: 0,
-        last: NONE,
-    }
+// What came back of a call: the record, the answer or why there is none, and how many bytes were
+// read.
+#[derive(Clone, Copy)]
+pub struct Came<'a> {
+    pub state: State,
+    sent: Result<&'a [u8], Refusal>,
+    pub read: usize,
 }
 
-pub fn with_state(session: Session, state: State) -> Session {
-    let mut next = session;
-    next.state = state;
-    next
-}
-
-pub fn failed(session: Session) -> Session {
-    let mut next = session;
-    next.bad = true;
-    next
-}
-
-// The words that are read from here on, as far as they fit.
-pub fn with_typed(session: Session, text: &[u8], from: usize) -> Session {
-    let mut typed = [0u8; 32];
-    let mut at = from;
-    let mut i = 0;
-    while i < 32 {
-        if at < text.len() {
-            typed[i] = text[at];
-            at += 1;
+impl Repeat {
+    pub fn new() -> Repeat {
+        Repeat {
+            last: None,
+            same: 0,
         }
-        i += 1;
     }
-    let mut next = session;
-    next.typed = typed;
-    next.size = if from < text.len() {
-        text.len() - from
-    } else {
-        0
-    };
-    next
+}
+
+impl<'a> Came<'a> {
+    fn new(answer: Answer, read: usize, lent: &'a [u8]) -> Came<'a> {
+        let sent = match answer.sent {
+            Ok(size) => Ok(&lent[..size.min(lent.len())]),
+            Err(refusal) => Err(refusal),
+        };
+        Came {
+            state: answer.state,
+            sent,
+            read,
+        }
+    }
+
+    // None where the call is done.
+    pub fn refusal(&self) -> Option<Refusal> {
+        self.sent.err()
+    }
+
+    pub fn answer(&self) -> &'a [u8] {
+        self.sent.unwrap_or(&[])
+    }
+}
+
+impl Session {
+    pub fn new() -> Session {
+        Session {
+            state: state::power_on(),
+            image: [0u8; 40],
+            room: FIRST_ROOM,
+            verbose: false,
+            raw: false,
+            repeat: None,
+        }
+    }
+
+    fn lent<'a>(&self, buffer: &'a mut [u8; MOST_ROOM]) -> &'a mut [u8] {
+        &mut buffer[..self.room.min(MOST_ROOM)]
+    }
+
+    pub fn run<'a>(&self, bytes: &[u8], buffer: &'a mut [u8; MOST_ROOM]) -> Came<'a> {
+        let lent = self.lent(buffer);
+        let Ran { answer, read } = board::run(self.state, bytes, &self.image, lent);
+        Came::new(answer, read, lent)
+    }
+
+    pub fn tick<'a>(&self, buffer: &'a mut [u8; MOST_ROOM]) -> Came<'a> {
+        let lent = self.lent(buffer);
+        let answer = board::tick(self.state, &self.image, lent);
+        Came::new(answer, 0, lent)
+    }
+
+    pub fn report(&self, report: Report) -> Came<'static> {
+        let Report {
+            drop,
+            cliff,
+            charger,
+        } = report;
+        let answer = board::safety_report(self.state, drop, cliff, charger);
+        Came::new(answer, 0, &[])
+    }
+
+    pub fn song_end(&self) -> Came<'static> {
+        Came::new(board::song_end(self.state), 0, &[])
+    }
+
+    // What came back is shown, and its record is the session's.
+    pub fn keep(&mut self, came: &Came<'_>) {
+        self.state = came.state;
+        if let Some(repeat) = &mut self.repeat {
+            repeat.last = Some(came.refusal());
+        }
+    }
+
+    // While a line is repeated, what gives the same again is counted and not shown: no answer, the
+    // number, and a record that differs in the frame half read at most.
+    pub fn counts(&mut self, came: &Came<'_>) -> bool {
+        let Some(repeat) = &mut self.repeat else {
+            return false;
+        };
+        let mut before = self.state;
+        before.partial = came.state.partial;
+        let again = repeat.last == Some(came.refusal()) && before == came.state;
+        if !again || !came.answer().is_empty() {
+            return false;
+        }
+        repeat.same = repeat.same.saturating_add(1);
+        self.state = came.state;
+        true
+    }
 }

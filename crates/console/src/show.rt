@@ -1,209 +1,157 @@
 // What is said of a record, within 100 columns: the mode and the wheels, and of the rest what a
-// call has changed. Columns go in, those of the line so far, and come back.
-use crate::texts::{
-    DUTIES, HALF_READ, JOIN, JOIN_BELOW, KEPT, LEDS, LINE_END, PLAYING, SONG, SPEEDS, STREAMING,
-    THEN, THEN_BELOW, WHEELS, tell, tell_plain, tell_three,
-};
+// call has changed. A record's order and flags are numbers and no enums, since C reads it.
+use drive::Speeds;
 use frame::Partial;
-use state::{Kept, Motors, Song, Songs, State, Stream};
-use terminal::{Out, bits, plus, wide};
+use state::{Kept, Motors, Songs, State, Stream};
+use std::fmt;
+use terminal::{Listed, Out, Write, say};
+use words::Mode;
 
-// Where what is said next may not fit, it goes to a line of its own.
+// Where what is said next may not fit, it goes to a line of its own: a part, and the record behind
+// a number's words.
 const LATE: usize = 66;
 
 const LATE_NUMBER: usize = 44;
 
-const BELOW: usize = 4;
+// A wheel order as a record has it, and the speeds that the wheels are given; an order of the
+// board's own always has them.
+#[derive(Clone, Copy)]
+struct Wheels<'a>(&'a Motors);
 
-fn at_most(n: usize, most: usize) -> usize {
-    if n <= most { n } else { most }
+impl fmt::Display for Wheels<'_> {
+    fn fmt<W: fmt::Write>(&self, f: &mut fmt::Formatter<W>) -> fmt::Result {
+        let (order, first, second) = (self.0.order, self.0.first, self.0.second);
+        match order {
+            state::NO_ORDER => return f.write_str("wheels stopped"),
+            state::DRIVE => write!(f, "drive {first} {second}")?,
+            state::DIRECT => write!(f, "direct {first} {second}")?,
+            _ => write!(f, "no such order ({order})")?,
+        }
+        let Ok(
+            Speeds {
+                right,
+                left,
+                capped,
+            },
+        ) = drive::wheel_speeds(order, first, second)
+        else {
+            return f.write_str(" (no speeds)");
+        };
+        write!(
+            f,
+            " (right {right}, left {left}{})",
+            if capped { ", capped" } else { "" }
+        )
+    }
 }
 
-pub fn one_if(is: bool) -> usize {
-    if is { 1 } else { 0 }
+// The mode and the wheels of a record.
+#[derive(Clone, Copy)]
+pub struct Drive<'a>(pub &'a State);
+
+impl fmt::Display for Drive<'_> {
+    fn fmt<W: fmt::Write>(&self, f: &mut fmt::Formatter<W>) -> fmt::Result {
+        write!(f, "{}, {}", Mode(self.0.mode), Wheels(&self.0.motors))
+    }
+}
+
+// A mark, and what comes next behind it: on this line, or on one of its own where this one is late.
+fn mark(out: &mut Out, mark: char, late: usize) {
+    if out.column() > late {
+        say!(out, "{mark}\n    ");
+    } else {
+        say!(out, "{mark} ");
+    }
 }
 
 // Before the next part.
-fn lead(out: &Out, used: usize) -> usize {
-    if used > LATE {
-        tell_plain(out, JOIN_BELOW);
-        return BELOW;
+fn lead(out: &mut Out) {
+    mark(out, ',', LATE);
+}
+
+// Bytes that have changed, under a name.
+fn say_bytes(out: &mut Out, name: &str, a: &[u8], b: &[u8]) {
+    if a != b {
+        lead(out);
+        say!(out, "{name} {}", Listed::new(b));
     }
-    plus(used, tell_plain(out, JOIN))
 }
 
-// Between a number's words and the record.
-fn after_number(out: &Out, used: usize) -> usize {
-    if used > LATE_NUMBER {
-        tell_plain(out, THEN_BELOW);
-        return BELOW;
-    }
-    plus(used, tell_plain(out, THEN))
+fn say_kept(out: &mut Out, a: &Kept, b: &Kept) {
+    say_bytes(out, "LEDs", &a.leds, &b.leds);
+    say_bytes(out, "baud code", &[a.baud], &[b.baud]);
+    say_bytes(out, "outputs", &[a.outputs], &[b.outputs]);
+    say_bytes(out, "IR byte", &[a.ir], &[b.ir]);
 }
 
-// How the speeds that the wheels are given are shown; an order of the board's own always has them.
-fn speeds_shown(order: u8, number: u8, capped: bool) -> usize {
-    if order == state::NO_ORDER {
-        return 0;
-    }
-    if number != 0 {
-        return 1;
-    }
-    if capped { 3 } else { 2 }
-}
-
-fn say_speeds(out: &Out, motors: Motors) -> usize {
-    let speeds = drive::wheel_speeds(motors.order, motors.first, motors.second);
-    let shown = speeds_shown(motors.order, speeds.number, speeds.capped);
-    tell_three(out, SPEEDS, shown, bits(speeds.right), bits(speeds.left))
-}
-
-// The mode and the wheels.
-pub fn say_drive(out: &Out, state: State) -> usize {
-    let motors = state.motors;
-    let order = wide(motors.order);
-    let first = bits(motors.first);
-    let second = bits(motors.second);
-    let mode = words::say_mode(out, state.mode);
-    let wheels = tell(
-        out,
-        WHEELS,
-        [at_most(order, 3), first, second, order, 0, 0, 0, 0],
-    );
-    plus(mode, plus(wheels, say_speeds(out, motors)))
-}
-
-// Three bytes, under a name.
-fn say_three(out: &Out, used: usize, name: usize, a: [u8; 3], b: [u8; 3]) -> usize {
-    if a[0] == b[0] && (a[1] == b[1] && a[2] == b[2]) {
-        return used;
-    }
-    let at = lead(out, used);
-    plus(
-        at,
-        tell_three(out, name, wide(b[0]), wide(b[1]), wide(b[2])),
-    )
-}
-
-// A kept byte, named by its place in the form.
-fn say_byte(out: &Out, used: usize, name: usize, a: u8, b: u8) -> usize {
-    if a == b {
-        return used;
-    }
-    let at = lead(out, used);
-    plus(at, tell_three(out, KEPT, name, wide(b), 0))
-}
-
-fn say_kept(out: &Out, used: usize, a: Kept, b: Kept) -> usize {
-    let before = a.leds;
-    let after = b.leds;
-    let leds = say_three(out, used, LEDS, before, after);
-    let baud = say_byte(out, leds, 0, a.baud, b.baud);
-    let outputs = say_byte(out, baud, 1, a.outputs, b.outputs);
-    say_byte(out, outputs, 2, a.ir, b.ir)
-}
-
-fn say_playing(out: &Out, used: usize, a: u8, b: u8) -> usize {
-    if a == b {
-        return used;
-    }
-    let at = lead(out, used);
-    plus(
-        at,
-        tell_three(out, PLAYING, at_most(wide(b), 2), wide(b), 0),
-    )
-}
-
-fn same_song(a: Song, b: Song) -> bool {
-    let before = a.notes;
-    let after = b.notes;
-    a.len == b.len && wire::same(&before, &after)
-}
-
-// The first song that changed, or 16.
-fn changed_song(a: Songs, b: Songs) -> usize {
-    let before = a.table;
-    let after = b.table;
-    let mut i = 0;
-    while i < 16 {
-        if !same_song(before[i], after[i]) {
-            break;
+// The first song that has changed.
+fn say_song(out: &mut Out, a: &Songs, b: &Songs) {
+    for (i, (old, new)) in a.table.iter().zip(&b.table).enumerate() {
+        if old == new {
+            continue;
         }
-        i += 1;
+        lead(out);
+        match new.len {
+            0 => say!(out, "song {i} has no notes"),
+            1 => say!(out, "song {i} has a note"),
+            n => say!(out, "song {i} has {n} notes"),
+        }
+        return;
     }
-    i
 }
 
-fn say_song(out: &Out, used: usize, i: usize, songs: Songs) -> usize {
-    if i >= 16 {
-        return used;
+fn say_playing(out: &mut Out, a: u8, b: u8) {
+    if a == b {
+        return;
     }
-    let table = songs.table;
-    let n = wide(table[i].len);
-    let at = lead(out, used);
-    plus(at, tell_three(out, SONG, i, at_most(n, 2), n))
-}
-
-fn same_stream(a: Stream, b: Stream) -> bool {
-    let before = a.ids;
-    let after = b.ids;
-    a.on == b.on && (a.count == b.count && wire::same(&before, &after))
-}
-
-fn say_stream(out: &Out, used: usize, a: Stream, b: Stream) -> usize {
-    if same_stream(a, b) {
-        return used;
+    lead(out);
+    match b {
+        state::NO => say!(out, "not playing"),
+        state::YES => say!(out, "playing"),
+        _ => say!(out, "playing is {b}"),
     }
-    let at = lead(out, used);
-    let on = wide(b.on);
-    plus(
-        at,
-        tell_three(out, STREAMING, at_most(on, 2), on, wide(b.count)),
-    )
 }
 
-fn say_partial(out: &Out, used: usize, partial: Partial) -> usize {
+fn say_songs(out: &mut Out, a: &Songs, b: &Songs) {
+    say_song(out, a, b);
+    say_bytes(out, "song selected", &[a.selected], &[b.selected]);
+    say_playing(out, a.playing, b.playing);
+}
+
+fn say_stream(out: &mut Out, a: &Stream, b: &Stream) {
+    if a == b {
+        return;
+    }
+    lead(out);
+    match b.on {
+        state::NO => say!(out, "streaming off"),
+        state::YES => say!(out, "streaming on"),
+        on => say!(out, "streaming is {on}"),
+    }
+    say!(out, ", list of {}", b.count);
+}
+
+// How much of a frame is half read.
+fn say_partial(out: &mut Out, partial: &Partial) {
     if partial.count == 0 {
-        return used;
+        return;
     }
-    let at = lead(out, used);
-    let more = one_if(partial.remaining > 0);
-    plus(
-        at,
-        tell_three(out, HALF_READ, partial.count, more, partial.remaining),
-    )
+    lead(out);
+    say!(out, "half read: {} held", partial.count);
+    if partial.remaining > 0 {
+        say!(out, ", {} to come", partial.remaining);
+    }
 }
 
-fn say_songs(out: &Out, used: usize, a: Songs, b: Songs) -> usize {
-    let song = say_song(out, used, changed_song(a, b), b);
-    let selected = say_byte(out, song, 3, a.selected, b.selected);
-    say_playing(out, selected, a.playing, b.playing)
-}
-
-// The rest of the record, as far as it has changed; and how much of a frame is half read.
-fn say_changes(out: &Out, used: usize, before: State, after: State) -> usize {
-    let old = before.motors;
-    let new = after.motors;
-    let from = old.duties;
-    let to = new.duties;
-    let duties = say_three(out, used, DUTIES, from, to);
-    let kept_before = before.kept;
-    let kept = after.kept;
-    let bytes = say_kept(out, duties, kept_before, kept);
-    let songs_before = before.songs;
-    let songs = after.songs;
-    let played = say_songs(out, bytes, songs_before, songs);
-    let stream_before = before.stream;
-    let stream = after.stream;
-    let streamed = say_stream(out, played, stream_before, stream);
-    let partial = after.partial;
-    say_partial(out, streamed, partial)
-}
-
-// The record after a call, to the line's end.
-pub fn say_after(out: &Out, used: usize, before: State, after: State) {
-    let at = after_number(out, used);
-    let drive = say_drive(out, after);
-    say_changes(out, plus(at, drive), before, after);
-    tell_plain(out, LINE_END);
+// The record after a call, to the line's end: of what is not the mode and the wheels, as far as it
+// has changed.
+pub fn say_after(out: &mut Out, before: &State, after: &State) {
+    mark(out, ';', LATE_NUMBER);
+    say!(out, "{}", Drive(after));
+    say_bytes(out, "duties", &before.motors.duties, &after.motors.duties);
+    say_kept(out, &before.kept, &after.kept);
+    say_songs(out, &before.songs, &after.songs);
+    say_stream(out, &before.stream, &after.stream);
+    say_partial(out, &after.partial);
+    say!(out, "\n");
 }

@@ -1,80 +1,104 @@
 // What stops the board whatever it holds: 511 bytes of 128.
-use crate::calls::take;
-use crate::session::{NONE, Session, with_state};
-use crate::show::{one_if, say_drive};
-use crate::texts::{AT_END, LINE_END, OPCODE, RANGE, STOP, tell_one, tell_plain, tell_three};
-use terminal::Out;
+use crate::session::{MOST_ROOM, Session};
+use crate::show::Drive;
+use std::fmt;
+use terminal::{Out, Write, say};
+use wire::Refusal;
+use words::meaning;
+
+const START: u8 = 128;
 
 // The least number that stops from every accepted record.
 const ENOUGH: usize = 511;
 
-// A session, how many bytes were given, the byte from which on the last number was given, and the
-// first byte that was read as an opcode, both counted from 1, 0 for none.
+// Bytes that gave the same one after another: the first and the last, counted from 1, and what they
+// gave.
+#[derive(Clone, Copy)]
+struct Range {
+    first: usize,
+    last: usize,
+    gave: Option<Refusal>,
+}
+
+impl fmt::Display for Range {
+    fn fmt<W: fmt::Write>(&self, f: &mut fmt::Formatter<W>) -> fmt::Result {
+        let Range { first, last, gave } = *self;
+        if first < last {
+            write!(f, "    bytes {first} to {last}: {}\n", meaning(gave))
+        } else {
+            write!(f, "    byte {first}: {}\n", meaning(gave))
+        }
+    }
+}
+
+// The bytes that are given: the last range of them, and the first that was read as an opcode.
 #[derive(Clone, Copy)]
 struct Stopping {
-    session: Session,
-    given: usize,
-    number: u8,
-    since: usize,
-    opcode: usize,
+    range: Option<Range>,
+    opcode: Option<usize>,
 }
 
-// What a range of bytes gave.
-fn say_range(out: &Out, first: usize, last: usize, number: u8) {
-    if number == NONE {
-        return;
+impl Stopping {
+    // A byte that gave something: the range goes on, or it is told and another begins.
+    fn gave(&mut self, out: &mut Out, k: usize, gave: Option<Refusal>) {
+        let last = self.range;
+        let first = match last {
+            Some(range) if range.gave == gave => range.first,
+            Some(range) => {
+                say!(out, "{range}");
+                k
+            }
+            None => k,
+        };
+        self.range = Some(Range {
+            first,
+            last: k,
+            gave,
+        });
     }
-    tell_three(out, RANGE, one_if(first < last), first, last);
-    words::say_meaning(out, number);
-    tell_plain(out, LINE_END);
-}
 
-// A byte is read as an opcode where nothing is half read, and 8 says that it is not read.
-fn stop_byte(out: &Out, now: Stopping) -> Stopping {
-    let session = now.session;
-    let state = session.state;
-    let partial = state.partial;
-    let came = take(session, [128u8; 512], 0, 1);
-    let mut next = now;
-    let after = came.state;
-    let k = terminal::plus(now.given, 1);
-    next.session = with_state(session, after);
-    next.given = k;
-    if now.opcode == 0 && (partial.count == 0 && came.number != 8) {
-        next.opcode = k;
+    // A byte is read as an opcode where nothing is half read, and of a bad record nothing is read.
+    fn give(&mut self, out: &mut Out, session: &mut Session, k: usize) {
+        let mut buffer = [0u8; MOST_ROOM];
+        let came = session.run(&[START], &mut buffer);
+        let refusal = came.refusal();
+        let read = refusal != Some(Refusal::BadRecord);
+        if self.opcode.is_none() && session.state.partial.count == 0 && read {
+            self.opcode = Some(k);
+        }
+        session.state = came.state;
+        self.gave(out, k, refusal);
     }
-    if came.number != now.number {
-        say_range(out, now.since, now.given, now.number);
-        next.number = came.number;
-        next.since = k;
+
+    fn say_end(&self, out: &mut Out, session: &Session) {
+        if let Some(range) = self.range {
+            say!(out, "{range}");
+        }
+        match self.opcode {
+            Some(k) => say!(
+                out,
+                "    byte {k} was the first that was read as an opcode\n"
+            ),
+            None => say!(out, "    none was read as an opcode\n"),
+        }
+        let held = session.state.partial.count > 0;
+        let half_read = if held { "a frame" } else { "nothing" };
+        say!(
+            out,
+            "    {}, {half_read} half read\n",
+            Drive(&session.state)
+        );
     }
-    next
 }
 
-fn say_stopped(out: &Out, stopping: Stopping) {
-    let session = stopping.session;
-    let state = session.state;
-    let partial = state.partial;
-    tell_three(out, OPCODE, one_if(stopping.opcode > 0), stopping.opcode, 0);
-    say_drive(out, state);
-    tell_one(out, AT_END, one_if(partial.count > 0));
-}
-
-pub fn stop(out: &Out, session: Session) -> Session {
-    let mut now = Stopping {
-        session,
-        given: 0,
-        number: NONE,
-        since: 1,
-        opcode: 0,
+pub fn stop(out: &mut Out, session: &mut Session) {
+    say!(out, "stop: {ENOUGH} bytes of {START}\n");
+    let mut stopping = Stopping {
+        range: None,
+        opcode: None,
     };
-    tell_plain(out, STOP);
-    let mut turns = ENOUGH;
-    while turns > 0 {
-        now = stop_byte(out, now);
-        turns -= 1;
+    for k in 1..=ENOUGH {
+        stopping.give(out, session, k);
     }
-    say_range(out, now.since, now.given, now.number);
-    say_stopped(out, now);
-    now.session
+    stopping.say_end(out, session);
 }

@@ -25,12 +25,15 @@ use Rattle.drive.proofs.RoundingLaws.{nearest_odd}
 
 -- ---- numbers that are not the same
 
-pub not_same : (a b : ℤ) → (nat_abs a ≡ nat_abs b → ⊥) → same_number a b ≡ false
-not_same a b n = go (same_number a b) refl
+pub differ : (a b : ℤ) → (a ≡ b → ⊥) → same_number a b ≡ false
+differ a b n = go (same_number a b) refl
   where
     go : (t : Bool) → same_number a b ≡ t → same_number a b ≡ false
-    go true e = absurd (n (ap nat_abs (same_number_lem a b (to_T (same_number a b) e))))
+    go true e = absurd (n (same_number_lem a b (to_T (same_number a b) e)))
     go false e = e
+
+pub not_same : (a b : ℤ) → (nat_abs a ≡ nat_abs b → ⊥) → same_number a b ≡ false
+not_same a b n = differ a b (λ e. n (ap nat_abs e))
 
 -- ---- by the radius
 

@@ -21,10 +21,9 @@ use Rattle.state.specs.declared.State.{State}
 use Rattle.state.proofs.StateLaws.{off_order}
 use Rattle.state.proofs.RecordProved.{accepted_exactly}
 use Rattle.drive.specs.Rounding.{nearest_of}
-use Rattle.drive.specs.Orders.{wheels, right_numerator, left_numerator, curve_of, beyond, speeds, given, refused, legal_order, wheels_by, speeds_of}
+use Rattle.drive.specs.Orders.{wheels, right_numerator, left_numerator, curve_of, beyond, Told, speeds, given, refused, legal_order, wheels_by, speeds_of}
 use Rattle.drive.specs.Cases.{speed_cases, speed_right}
 use Rattle.drive.specs.Stage.{is_plain, is_special, BothNearest, CurvesRight, backwards, OrdersRight, ordered, RecordsRight, StageRight}
-use Rattle.drive.specs.declared.Speeds.{Speeds}
 use Rattle.drive.specs.declared.Wheels.{Wheels}
 use Rattle.drive.proofs.RoundingLaws.{is_nearest, rounding_right}
 use Rattle.drive.proofs.OrdersLaws.{not_same, on_one, on_minus_one, on_straight, on_least, on_plain, turned, curve_odd, legal_none, legal_drive, legal_direct, legal_unnamed, cap_above, cap_below, cap_keeps, cap_inside, cap_bounded, cap_odd, speeds_refused, speeds_given}
@@ -128,9 +127,9 @@ direct_is a b = by_legal 2 a b ∙ ap (λ (t : Bool). cond t (given (wheels a b)
     passed false f = refl
 
 flag_is : (v r : ℤ) → (is_speed v && is_radius r) ≡ true → (speeds_of 1 v r).capped ≡ (beyond (curve_of v r).right || beyond (curve_of v r).left)
-flag_is v r e = ap (λ (s : Speeds). s.capped) (drive_is v r ∙ cond-true (is_speed v && is_radius r) (given (curve_of v r)) refused e)
+flag_is v r e = ap (λ (s : Told). s.capped) (drive_is v r ∙ cond-true (is_speed v && is_radius r) (given (curve_of v r)) refused e)
 
-abbrev number_of : Speeds → ℕ
+abbrev number_of : Told → ℕ
 number_of s = s.number
 
 -- those that are given, and 0
@@ -138,7 +137,7 @@ bounded : (kind : ℕ) (a b : ℤ) → (nat_abs (speeds_of kind a b).right ≤ 5
 bounded kind a b =
     let w = wheels_by kind a b in
     rw (by_legal kind a b)
-    (cond_is (λ (s : Speeds). (nat_abs s.right ≤ 500) × (nat_abs s.left ≤ 500)) (legal_order kind a b)
+    (cond_is (λ (s : Told). (nat_abs s.right ≤ 500) × (nat_abs s.left ≤ 500)) (legal_order kind a b)
     (λ e. (cap_bounded w.right, cap_bounded w.left))
     (λ e. (omega arith, omega arith)))
 
@@ -159,7 +158,7 @@ odd : (v r : ℤ) → speeds_of 1 (neg_ℤ v) r ≡ backwards (speeds_of 1 v r)
 odd v r =
     drive_is (neg_ℤ v) r
     ∙ (λ i. cond (speed_even v i && is_radius r) (given (curve_odd v r i)) refused)
-    ∙ ap (λ (s : Speeds). cond (is_speed v && is_radius r) s refused) (given_odd (curve_of v r))
+    ∙ ap (λ (s : Told). cond (is_speed v && is_radius r) s refused) (given_odd (curve_of v r))
     ∙ either (is_speed v && is_radius r)
     ∙ sym (ap backwards (drive_is v r))
   where

@@ -11,9 +11,8 @@ use Rattle.state.specs.Same.{same_number}
 use Rattle.state.specs.declared.Motors.{Motors}
 use Rattle.state.specs.declared.State.{State}
 use Rattle.drive.specs.Rounding.{Nearest, RoundingRight}
-use Rattle.drive.specs.Orders.{wheels, right_numerator, left_numerator, curve_of, beyond, cap_of, speeds, given, refused, speeds_of}
+use Rattle.drive.specs.Orders.{wheels, right_numerator, left_numerator, curve_of, beyond, cap_of, Told, speeds, given, refused, speeds_of}
 use Rattle.drive.specs.Cases.{speed_cases, speed_right}
-use Rattle.drive.specs.declared.Speeds.{Speeds}
 use Rattle.drive.specs.declared.Wheels.{Wheels}
 
 -- ---- a curve
@@ -54,7 +53,7 @@ pub record CapRight : Type 0 where
 -- ---- an order
 
 -- the same backwards
-abbrev pub backwards : Speeds → Speeds
+abbrev pub backwards : Told → Told
 backwards s = record { number = s.number; right = neg_ℤ s.right; left = neg_ℤ s.left; capped = s.capped }
 
 -- THEOREM: every kind of order, with any two numbers
@@ -76,7 +75,7 @@ pub record OrdersRight : Type 0 where
 
 -- ---- the state record's order
 
-abbrev pub ordered : Motors → Speeds
+abbrev pub ordered : Motors → Told
 ordered m = speeds_of m.order m.first m.second
 
 -- THEOREM: a record that the board takes is never refused here, and where it has its motors off the

@@ -8,7 +8,7 @@
 //     Drive, 32767, -32768      both v (V7)
 //     Direct                    as it is (V8)
 //
-// then each is capped to -500 and 500 (V10). An order that is not legal is refused with 4 (V12).
+// then each is capped to -500 and 500 (V10). An order that is not legal is refused, number 4 (V12).
 //
 // Proved (specs/Stage.antt): each speed before the cap is the nearest whole number, the only one
 // but at a half, and there the one further from zero; the cap and its flag in every case; the
@@ -17,11 +17,12 @@
 // and Rust it is `firmware`'s `wheel_speeds`.
 #![tactic(auto)]
 
-ghost use Rattle.std.specs.Prelude.{◌≡◌, ◌<◌, ◌≤◌, nat_abs, ◌+ℤ◌, ◌*ℤ◌};
+ghost use Rattle.std.specs.Prelude.{◌≡◌, ◌<◌, ◌≤◌, Ok, nat_abs, ◌+ℤ◌, ◌*ℤ◌};
 ghost use Rattle.drive.specs.Rounding.{nearest_of};
-ghost use Rattle.drive.specs.Orders.{curve_of, cap_of, given, refused, speeds_of};
+ghost use Rattle.drive.specs.Orders.{curve_of, cap_of, given, told_speeds, speeds_of};
 
 use state::Motors;
+use wire::Refusal;
 
 // The wheel centres are 258 mm apart: how far to the right of the middle each is.
 const RIGHT: i32 = 129;
@@ -31,19 +32,16 @@ const LEFT: i32 = -129;
 // The fastest that a wheel turns, either way.
 const FASTEST: i32 = 500;
 
-const DONE: u8 = 0;
-
-// The number, 0 or 4, the speed of each wheel, and whether either was capped.
-#[derive(Clone, Copy)]
+// The speed of each wheel, and whether either was capped.
+#[derive(Clone, Copy, Debug, PartialEq, Eq)]
 pub struct Speeds {
-    pub number: u8,
     pub right: i16,
     pub left: i16,
     pub capped: bool,
 }
 
 // Both wheels' speeds before the cap.
-#[derive(Clone, Copy)]
+#[derive(Clone, Copy, Debug, PartialEq, Eq)]
 struct Wheels {
     right: i32,
     left: i32,
@@ -58,7 +56,7 @@ fn nearest(n: i32, d: i32) -> i32
     ensures { result ≡ nearest_of n d }
 {
     let quotient = n / d;
-    if 2 * wire::magnitude(n % d) < wire::magnitude(d) {
+    if 2 * (n % d).unsigned_abs() < d.unsigned_abs() {
         return quotient;
     }
     if (n < 0) == (d < 0) {
@@ -75,9 +73,8 @@ fn on_curve(velocity: i16, radius: i16, offset: i32) -> i32
     requires offset_bound { nat_abs offset ≤ 129 }
     ensures { result ≡ nearest_of (velocity *ℤ (radius +ℤ offset)) radius }
 {
-    let v = velocity as i32;
-    let r = radius as i32;
-    nearest(v * (r + offset), r)
+    let r = i32::from(radius);
+    nearest(i32::from(velocity) * (r + offset), r)
 }
 
 // Both wheels by velocity and radius.
@@ -85,7 +82,7 @@ fn curve(velocity: i16, radius: i16) -> Wheels
     requires { 0 < nat_abs radius }
     ensures { result ≡ curve_of velocity radius }
 {
-    let v = velocity as i32;
+    let v = i32::from(velocity);
     match radius {
         1 => Wheels { right: v, left: -v },
         -1 => Wheels { right: -v, left: v },
@@ -101,62 +98,46 @@ fn curve(velocity: i16, radius: i16) -> Wheels
 fn cap(speed: i32) -> i32
     ensures { result ≡ cap_of speed }
 {
-    if speed > FASTEST {
-        return FASTEST;
-    }
-    if speed < -FASTEST {
-        return -FASTEST;
-    }
-    speed
+    speed.clamp(-FASTEST, FASTEST)
 }
 
-// Each wheel capped alone, and whether that changed either.
+// Each wheel capped alone, and whether that changed either. A capped speed fits 16 bits: `try_from`
+// would have an error that never comes.
 fn cap_both(wheels: Wheels) -> Speeds
-    ensures { result ≡ given wheels }
+    ensures { told_speeds (Ok result) ≡ given wheels }
 {
     let right = cap(wheels.right);
     let left = cap(wheels.left);
     Speeds {
-        number: DONE,
         right: right as i16,
         left: left as i16,
         capped: right != wheels.right || left != wheels.left,
     }
 }
 
-// A refusal has no speeds.
-fn refuse() -> Speeds
-    ensures { result ≡ refused }
-{
-    Speeds {
-        number: wire::NOT_LEGAL,
-        right: 0,
-        left: 0,
-        capped: false,
-    }
-}
-
-// The speeds of a wheel order as the state record has it: its kind and its two numbers. It is legal
-// by the record's own rule. Beside a 4 both speeds are 0, and neither was capped (`refused`, rule
-// V12), so that a motor stage that looks at the speeds alone stands.
-pub fn wheel_speeds(kind: u8, first: i16, second: i16) -> Speeds
-    ensures { result ≡ speeds_of kind first second }
+// The speeds of a wheel order as the state record has it, and C hands it on: its kind, which may be
+// any number, and its two numbers. It is legal by the record's own rule. A refusal has no speeds;
+// where it is told in numbers, both are 0 and neither was capped (`refused`, rule V12), so that a
+// motor stage that looks at the speeds alone stands.
+pub fn wheel_speeds(kind: u8, first: i16, second: i16) -> Result<Speeds, Refusal>
+    ensures { told_speeds result ≡ speeds_of kind first second }
 {
     let order = Motors {
         order: kind,
         first,
         second,
-        duties: [0u8; 3],
+        duties: [0; 3],
     };
     if !state::wheels_ok(order) {
-        return refuse();
+        return Err(Refusal::NotLegal);
     }
-    match kind {
-        state::DRIVE => cap_both(curve(first, second)),
-        state::DIRECT => cap_both(Wheels {
-            right: first as i32,
-            left: second as i32,
-        }),
-        _ => cap_both(Wheels { right: 0, left: 0 }),
-    }
+    let wheels = match kind {
+        state::DRIVE => curve(first, second),
+        state::DIRECT => Wheels {
+            right: i32::from(first),
+            left: i32::from(second),
+        },
+        _ => Wheels { right: 0, left: 0 },
+    };
+    Ok(cap_both(wheels))
 }

@@ -2,7 +2,7 @@
 -- there.
 -- Assumes nothing.
 use Rattle.std.specs.Prelude.{◌≡◌, Bool, true, false, not, cond, ℕ, ◌<◌, eqb}
-use Rattle.drive.specs.declared.Speeds.{Speeds}
+use Rattle.drive.specs.Orders.{Told}
 use Rattle.firmware.specs.declared.WheelSpeeds.{WheelSpeeds}
 
 -- a flag that is handed in: 0 clear, any other number set
@@ -14,7 +14,7 @@ abbrev pub flag_of : Bool → ℕ
 flag_of b = cond b 1 0
 
 -- the speeds of `drive`, with such a flag
-unfoldable pub wheel_speeds_of : Speeds → WheelSpeeds
+unfoldable pub wheel_speeds_of : Told → WheelSpeeds
 wheel_speeds_of s = record { number = s.number; right = s.right; left = s.left; capped = flag_of s.capped }
 
 -- THEOREM: a flag is the same on both sides, and wheel speeds are as `drive` gives them
@@ -23,7 +23,7 @@ pub record BorderRight : Type 0 where
   pub set : (flag : ℕ) → 0 < flag → flag_set flag ≡ true
   pub yes : flag_of true ≡ 1
   pub no : flag_of false ≡ 0
-  pub same_number_lem : (s : Speeds) → (wheel_speeds_of s).number ≡ s.number
-  pub same_right : (s : Speeds) → (wheel_speeds_of s).right ≡ s.right
-  pub same_left : (s : Speeds) → (wheel_speeds_of s).left ≡ s.left
-  pub flag_capped : (s : Speeds) → (wheel_speeds_of s).capped ≡ flag_of s.capped
+  pub same_number_lem : (s : Told) → (wheel_speeds_of s).number ≡ s.number
+  pub same_right : (s : Told) → (wheel_speeds_of s).right ≡ s.right
+  pub same_left : (s : Told) → (wheel_speeds_of s).left ≡ s.left
+  pub flag_capped : (s : Told) → (wheel_speeds_of s).capped ≡ flag_of s.capped

@@ -7,10 +7,8 @@
 // and no enum, so that any bytes that are lent are a record, good or bad.
 #![tactic(auto)]
 
-mod steps;
-
 ghost use Rattle.std.specs.Prelude.{◌≡◌, length};
-ghost use Rattle.wire.specs.Replies.{sent_of, left_in};
+ghost use Rattle.wire.specs.Replies.{told, sent_of, left_in};
 ghost use Rattle.command.specs.CommandTable.{write_reply};
 ghost use Rattle.command.specs.Fields.{message_of};
 ghost use Rattle.state.specs.State.{power_on};
@@ -23,19 +21,33 @@ ghost use Rattle.firmware.specs.Border.{flag_set, flag_of, wheel_speeds_of};
 
 use command::Fields;
 use state::State;
-use steps::flag_of;
+use wire::Refusal;
 
 // The number (docs/RULES.md N0 to N9), and the length of what was written at the buffer's start.
 #[repr(C)]
-#[derive(Clone, Copy)]
+#[derive(Clone, Copy, Debug, PartialEq, Eq)]
 pub struct Reply {
     pub number: u8,
     pub length: usize,
 }
 
+impl From<Result<usize, Refusal>> for Reply {
+    ghost from_gives = { λ sent reply. (reply.number ≡ (told sent).number) × (reply.length ≡ (told sent).length) };
+
+    fn from(sent: Result<usize, Refusal>) -> Reply {
+        match sent {
+            Ok(length) => Reply { number: 0, length },
+            Err(refusal) => Reply {
+                number: u8::from(refusal),
+                length: 0,
+            },
+        }
+    }
+}
+
 // And of a run, with how many bytes were read.
 #[repr(C)]
-#[derive(Clone, Copy)]
+#[derive(Clone, Copy, Debug, PartialEq, Eq)]
 pub struct RunReply {
     pub number: u8,
     pub length: usize,
@@ -44,7 +56,7 @@ pub struct RunReply {
 
 // `drive`'s number and speeds, and whether either was capped: 1 yes, 0 no.
 #[repr(C)]
-#[derive(Clone, Copy)]
+#[derive(Clone, Copy, Debug, PartialEq, Eq)]
 pub struct WheelSpeeds {
     pub number: u8,
     pub right: i16,
@@ -66,12 +78,9 @@ pub fn board_byte(state: &mut State, b: u8, image: &[u8; 40], buffer: &mut [u8])
         × (result.length ≡ (answered (byte_of state.old b image.now (length buffer.old))).length)
         × (buffer.new ≡ written (byte_of state.old b image.now (length buffer.old)) buffer.old) }
 {
-    let a = board::byte(*state, b, image, buffer);
-    *state = a.state;
-    Reply {
-        number: a.number,
-        length: a.length,
-    }
+    let answer = board::byte(*state, b, image, buffer);
+    *state = answer.state;
+    Reply::from(answer.sent)
 }
 
 // Bytes, up to the first that does not wait (rule U1).
@@ -82,12 +91,13 @@ pub fn board_run(state: &mut State, bytes: &[u8], image: &[u8; 40], buffer: &mut
         × (result.read ≡ (ran_as (run_of state.old bytes.now image.now (length buffer.old))).read)
         × (buffer.new ≡ written (run_of state.old bytes.now image.now (length buffer.old)).outcome buffer.old) }
 {
-    let a = board::run(*state, bytes, image, buffer);
-    *state = a.state;
+    let ran = board::run(*state, bytes, image, buffer);
+    *state = ran.answer.state;
+    let Reply { number, length } = Reply::from(ran.answer.sent);
     RunReply {
-        number: a.number,
-        length: a.length,
-        read: a.read,
+        number,
+        length,
+        read: ran.read,
     }
 }
 
@@ -97,9 +107,9 @@ pub fn board_safety_report(state: &mut State, drop: u8, cliff: u8, charger: u8) 
     ensures { (state.new ≡ (answered (report_of state.old (flag_set drop) (flag_set cliff) (flag_set charger))).state)
         × (result ≡ (answered (report_of state.old (flag_set drop) (flag_set cliff) (flag_set charger))).number) }
 {
-    let a = steps::report(*state, drop, cliff, charger);
-    *state = a.state;
-    a.number
+    let answer = board::safety_report(*state, drop != 0, cliff != 0, charger != 0);
+    *state = answer.state;
+    Reply::from(answer.sent).number
 }
 
 // A tick.
@@ -109,35 +119,32 @@ pub fn board_tick(state: &mut State, image: &[u8; 40], buffer: &mut [u8]) -> Rep
         × (result.length ≡ (answered (tick_of state.old image.now (length buffer.old))).length)
         × (buffer.new ≡ written (tick_of state.old image.now (length buffer.old)) buffer.old) }
 {
-    let a = board::tick(*state, image, buffer);
-    *state = a.state;
-    Reply {
-        number: a.number,
-        length: a.length,
-    }
+    let answer = board::tick(*state, image, buffer);
+    *state = answer.state;
+    Reply::from(answer.sent)
 }
 
 // A song end.
 pub fn board_song_end(state: &mut State) -> u8
     ensures { (state.new ≡ (answered (song_end_of state.old)).state) × (result ≡ (answered (song_end_of state.old)).number) }
 {
-    let a = board::song_end(*state);
-    *state = a.state;
-    a.number
+    let answer = board::song_end(*state);
+    *state = answer.state;
+    Reply::from(answer.sent).number
 }
 
 // Whether the board takes a record: 1 yes; 0 no, and then the calls above answer 8.
 pub fn board_accepts(state: &State) -> u8
     ensures { result ≡ flag_of (accepted_of state.now) }
 {
-    steps::accepted(*state)
+    u8::from(state::accepts(*state))
 }
 
 // Whether two records are the same in every field: 1 yes, 0 no.
 pub fn board_same(a: &State, b: &State) -> u8
     ensures { result ≡ flag_of (same_state a.now b.now) }
 {
-    steps::same(*a, *b)
+    u8::from(state::same(*a, *b))
 }
 
 // The host-side writer, of a message in flat fields: 4, then 7, then the frame.
@@ -146,22 +153,26 @@ pub fn host_write(message: &Fields, buffer: &mut [u8]) -> Reply
         × (result.length ≡ (sent_of (write_reply (message_of message.now) (length buffer.old))).length)
         × (buffer.new ≡ left_in (write_reply (message_of message.now) (length buffer.old)) buffer.old) }
 {
-    let a = steps::write(*message, buffer);
-    Reply {
-        number: a.number,
-        length: a.length,
-    }
+    Reply::from(command::write(command::message_of(*message), buffer))
 }
 
-// The speed of each wheel by a wheel order of the record: its kind and its two numbers.
+// The speed of each wheel by a wheel order of the record: its kind and its two numbers. It is the
+// one place where speeds are told in numbers.
 pub fn wheel_speeds(kind: u8, first: i16, second: i16) -> WheelSpeeds
     ensures { result ≡ wheel_speeds_of (speeds_of kind first second) }
 {
-    let speeds = drive::wheel_speeds(kind, first, second);
-    WheelSpeeds {
-        number: speeds.number,
-        right: speeds.right,
-        left: speeds.left,
-        capped: flag_of(speeds.capped),
+    match drive::wheel_speeds(kind, first, second) {
+        Ok(speeds) => WheelSpeeds {
+            number: 0,
+            right: speeds.right,
+            left: speeds.left,
+            capped: u8::from(speeds.capped),
+        },
+        Err(refusal) => WheelSpeeds {
+            number: u8::from(refusal),
+            right: 0,
+            left: 0,
+            capped: 0,
+        },
     }
 }

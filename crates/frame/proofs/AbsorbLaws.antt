@@ -1,7 +1,7 @@
 -- Laws of bytes taken at once: they leave what they leave one by one.
 -- Assumes nothing.
 use mathlib.Core.Path.{◌≡◌, refl, sym, ap, subst, ◌∙◌}
-use mathlib.Core.Bool.{Bool, true, false, cond}
+use mathlib.Core.Bool.{Bool, true, false}
 use mathlib.Core.List.{List, [], ◌∷◌, ◌++◌, append_assoc, append-nil}
 use mathlib.Core.Logic.{⊎_elim}
 use Prim.Native.Nat.{ℕ, suc, ◌+◌, ◌-◌, ◌≤◌, ◌<◌, min}
@@ -16,10 +16,9 @@ use Rattle.wire.specs.Buffer.{placed}
 use Rattle.wire.proofs.BoolLaws.{cond-true, cond-false, pos_eqb, eqb_iff}
 use Rattle.wire.proofs.BufferLaws.{placed_nil, placed_one, placed_append, length_placed}
 use Rattle.frame.specs.Push.{Pushed, header_of, stores_body, push_of}
-use Rattle.frame.specs.Absorb.{counted, keeps, body_of, absorb_of, Waits, Steps, TakenAtOnce}
+use Rattle.frame.specs.Absorb.{Absorbed, counted, keeps, body_of, absorb_of, Waits, Steps, TakenAtOnce}
 use Rattle.frame.specs.Reach.{reachable_of}
 use Rattle.frame.specs.declared.Partial.{Partial}
-use Rattle.frame.specs.declared.Absorbed.{Absorbed}
 use Rattle.frame.proofs.PushLaws.{stored_fits, Agree, stores_agree}
 use Rattle.frame.proofs.ReachLaws.{Stage, in_header, storing, skipping, places_of, stage_of}
 
@@ -41,14 +40,7 @@ unfolding absorb_of
 absorb_body p [] n h a e = absurd (omega arith)
 absorb_body p (b ∷ bs) n h a e = rw e (cond-false _ _ _ (pos_eqb p.remaining a))
 
--- n bytes of the body, stored or not, as the code's test k of n says
-pub absorb_left : (p : Partial) (bs : List ℕ) (n : ℕ) → 0 < length bs → 0 < p.remaining → n ≡ min p.remaining (length bs)
-    → (k : Bool) → keeps p n ≡ k → (bytes : List ℕ) (count : ℕ) → bytes ≡ cond k (placed (take n bs) p.count p.bytes) p.bytes
-    → count ≡ cond k (p.count + length (take n bs)) p.count
-    → record { partial = record { bytes = bytes; count = count; remaining = p.remaining - n }; complete = eqb p.remaining n; count = n } ≡ absorb_of p bs
-absorb_left p bs n h a e k s bytes count d f =
-    let z = length-take-le n bs (omega arith) in
-    rw (d, f, absorb_body p bs n h a e) (simp (z, s))
+pub ruleset cases = (absorb_none, absorb_one, absorb_body)
 
 -- ---- bytes of the body, one after the other
 

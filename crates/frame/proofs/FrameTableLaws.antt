@@ -1,11 +1,11 @@
 -- Laws of the frame table, each by one test that antt computes over opcodes 0 to 255.
 -- Assumes nothing.
-use mathlib.Core.Path.{◌≡◌, refl, sym, ap, subst, ◌∙◌}
+use mathlib.Core.Path.{◌≡◌, subst}
 use mathlib.Core.Bool.{Bool, not, ◌||◌}
 use mathlib.Core.List.{List}
-use Prim.Native.Nat.{ℕ, zero, suc, ◌<◌, zero-le}
+use Prim.Native.Nat.{ℕ, suc, ◌<◌, zero-le}
 use native.Mathlib.Omega.{arith}
-use lib.Dec.{T, leb, eqb, eqb→eq, eqb_refl}
+use lib.Dec.{T, leb, eqb, eqb_refl}
 use Rattle.wire.specs.Lists.{all_from, among}
 use Rattle.wire.proofs.BoolLaws.{implied}
 use Rattle.wire.proofs.ListsLaws.{from}
@@ -21,23 +21,8 @@ code Counted = 1
 code Song = 2
 code (Fixed n) = suc (suc (suc n))
 
-abbrev decode : ℕ → Length
-decode zero = Unknown
-decode (suc zero) = Counted
-decode (suc (suc zero)) = Song
-decode (suc (suc (suc n))) = Fixed n
-
-decode_code : (l : Length) → decode (code l) ≡ l
-decode_code Unknown = refl
-decode_code Counted = refl
-decode_code Song = refl
-decode_code (Fixed n) = refl
-
-abbrev pub same : Length → Length → Bool
+abbrev same : Length → Length → Bool
 same l m = eqb (code l) (code m)
-
-pub same_eq : (l m : Length) → T (same l m) → l ≡ m
-same_eq l m t = sym (decode_code l) ∙ ap decode (eqb→eq (code l) (code m) t) ∙ decode_code m
 
 -- ---- what holds of every opcode's length
 

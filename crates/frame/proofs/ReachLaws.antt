@@ -8,13 +8,15 @@ use Prim.Native.Nat.{ℕ, ◌+◌, ◌-◌, ◌≤◌, ◌<◌}
 use native.Mathlib.Nat.{eq-zero-or-pos, eq-or-lt_of_le}
 use native.Mathlib.Omega.{arith}
 use lib.Dec.{T, ltb, eqb, eqb→eq, ltb→lt}
-use lib.ListN.{length, set, drop, replicate, length-set}
+use lib.ListN.{length, get_or, set, drop, replicate, length-set}
 use lib.Seq.{drop-set-lt}
+use mir.Syntax.{w8}
+use mir.Val.{Fits}
 use mir.Facts.{and_yes, yes_and, yes_eqb}
 use borrow.Author.Tests.{ltb-true, ltb-false, not-true, lt-ltb, le-ltb, le-leb, eq-eqb, leb-true}
 use Rattle.wire.specs.Lists.{is_zero, is_byte, all_zero, all_bytes}
 use Rattle.wire.proofs.BoolLaws.{is_true, to_T, cond_cases, not_zero, pos_eqb, not_one}
-use Rattle.wire.proofs.ListsLaws.{bytes_set, all_later, zeros_are}
+use Rattle.wire.proofs.ListsLaws.{array_true, bytes_set, all_later, zeros_are}
 use Rattle.frame.specs.FrameTable.{data_length}
 use Rattle.frame.specs.Push.{Pushed, length_of, header_of, body_size, stores_body, measure_of, push_of, empty_partial, next_of, after_of}
 use Rattle.frame.specs.Reach.{is_array, unused_zero, remaining_fits, body_stored, header_alone, body_begun, remaining_right, reachable_of}
@@ -188,3 +190,10 @@ after_reachable [] p t u = t
 after_reachable (b ∷ bs) p t u =
     let s = and_yes (is_byte b) (all_bytes bs) u in
     after_reachable bs (next_of p b) (next_reachable p b t (ltb→lt b 256 s.0)) s.1
+
+-- of an array of the code the tests of the unused places and of the number remaining are all
+pub reachable_array : (p : Partial) → length p.bytes ≡ 35 → ((i : ℕ) → Fits w8 (get_or p.bytes i 0)) → reachable_of p ≡ (unused_zero p && remaining_right p)
+unfolding reachable_of
+reachable_array p long each =
+    let a : is_array p ≡ true = array_true 35 p.bytes long (λ i. (let h = each i in omega arith)) in
+    simp a

@@ -3,10 +3,17 @@
 use Rattle.std.specs.Prelude.{◌≡◌, Bool, false, cond, ◌&&◌, List, [], ◌∷◌, ℕ, ◌+◌, ◌-◌, ◌≤◌, ◌<◌, min, T, leb, eqb, length, take}
 use Rattle.wire.specs.Lists.{snoc}
 use Rattle.wire.specs.Buffer.{placed}
-use Rattle.frame.specs.Push.{Pushed, stores_body, push_of}
+use Rattle.frame.specs.Push.{Pushed, stores_body, push_of, pushed_as}
 use Rattle.frame.specs.Reach.{reachable_of}
 use Rattle.frame.specs.declared.Partial.{Partial}
-use Rattle.frame.specs.declared.Absorbed.{Absorbed}
+use Rattle.frame.specs.declared.Taken.{Taken}
+
+-- what the bytes of a slice leave; count of them are taken, and complete where the last of these
+-- was the frame's last
+pub record Absorbed : Type 0 where
+  pub partial : Partial
+  pub complete : Bool
+  pub count : ℕ
 
 -- what is left, and how many bytes were taken
 abbrev pub counted : Pushed → ℕ → Absorbed
@@ -36,6 +43,10 @@ absorb_of p [] = record { partial = p; complete = false; count = 0 }
 absorb_of p (b ∷ bs) =
     let n = min p.remaining (length (b ∷ bs)) in
     cond (eqb p.remaining 0) (counted (push_of p b) 1) (counted (body_of p (take n (b ∷ bs))) n)
+
+-- what the code tells of it
+abbrev pub taken_as : Taken → Absorbed
+taken_as t = counted (pushed_as t.frame) t.count
 
 -- ---- one by one
 

@@ -8,6 +8,8 @@ use Rattle.frame.specs.FrameTable.{data_length, data_bytes, header_size}
 use Rattle.frame.specs.declared.Length.{Length}
 use Rattle.frame.specs.declared.Length.TheVariants.{Fixed, Counted, Song, Unknown}
 use Rattle.frame.specs.declared.Partial.{Partial}
+use Rattle.frame.specs.declared.Frame.{Frame}
+use Rattle.frame.specs.declared.Frame.TheVariants.{Waits, Whole}
 
 -- ---- the parts of a frame, by its first bytes
 
@@ -58,6 +60,11 @@ stores_body bytes = stores_body_as (length_of bytes) bytes
 pub record Pushed : Type 0 where
   pub partial : Partial
   pub complete : Bool
+
+-- what the code tells of it: a frame that waits, or a whole one
+abbrev pub pushed_as : Frame → Pushed
+pushed_as (Waits p) = record { partial = p; complete = false }
+pushed_as (Whole p) = record { partial = p; complete = true }
 
 -- the frame with one byte more; a full one, which no list of bytes leaves, stays as it is
 abbrev pub append_of : Partial → ℕ → Partial

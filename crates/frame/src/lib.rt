@@ -15,17 +15,17 @@
 // cut knows nothing of modes, nor of whether a command will be refused.
 #![tactic(auto)]
 
-ghost use Rattle.std.specs.Prelude.{◌≡◌};
+ghost use Rattle.std.specs.Prelude.{◌≡◌, ◌≤◌, eqb, length};
 ghost use Rattle.frame.specs.FrameTable.{data_length, header_size};
-ghost use Rattle.frame.specs.Push.{body_size_as, stores_body_as, append_of, measure_of, empty_partial};
-ghost use Rattle.frame.specs.Absorb.{counted, absorb_of};
-ghost use Rattle.frame.specs.Reach.{reachable_of};
+ghost use Rattle.frame.specs.Push.{body_size_as, stores_body_as, append_of, measure_of, pushed_as, empty_partial};
+ghost use Rattle.frame.specs.Absorb.{keeps, body_of, absorb_of, taken_as};
+ghost use Rattle.frame.specs.Reach.{remaining_right, reachable_of};
 
 // The most notes of a song, and the most ids of a list, that are legal.
 pub const LEGAL_COUNT: u8 = 16;
 
 // How many data bytes follow an opcode.
-#[derive(Clone, Copy)]
+#[derive(Clone, Copy, Debug, PartialEq, Eq)]
 pub enum Length {
     // A number that the opcode alone gives.
     Fixed(usize),
@@ -39,26 +39,34 @@ pub enum Length {
 
 // A partial frame, which is the held frame of docs/RULES.md H1 to H10: the bytes stored, their
 // number, and how many bytes remain, which the rules call owed. It is empty where both numbers are
-// 0; remaining is 0 while the length is not known.
+// 0; remaining is 0 while the length is not known. An array with its count crosses to C, and
+// nothing here allocates.
 #[repr(C)]
-#[derive(Clone, Copy)]
+#[derive(Clone, Copy, Debug, PartialEq, Eq)]
 pub struct Partial {
     pub bytes: [u8; 35],
     pub count: usize,
     pub remaining: usize,
 }
 
-// What the bytes of a slice leave; count of them are taken, and complete where the last of these
-// was the frame's last.
-#[derive(Clone, Copy)]
-pub struct Absorbed {
-    pub partial: Partial,
-    pub complete: bool,
+// The frame that bytes leave: one that waits for more, or a whole one.
+#[derive(Clone, Copy, Debug, PartialEq, Eq)]
+pub enum Frame {
+    Waits(Partial),
+    Whole(Partial),
+}
+
+// What the bytes of a slice leave, of which count are taken. A frame is whole where the last of
+// these was its last.
+#[derive(Clone, Copy, Debug, PartialEq, Eq)]
+pub struct Taken {
+    pub frame: Frame,
     pub count: usize,
 }
 
 // The one place where framing is decided. One test over opcodes 0 to 255 holds this match against
 // the frame table.
+#[tactic(auto, unfolding(crate::specs::FrameTable::data_length))]
 pub fn data_length(op: u8) -> Length
     ensures { result ≡ data_length op }
 {
@@ -74,114 +82,118 @@ pub fn data_length(op: u8) -> Length
     }
 }
 
-// The bytes up to the one that gives the length, the opcode among them.
-fn header_size(length: Length) -> usize
-    ensures { result ≡ header_size length }
-{
-    match length {
-        Length::Fixed(_) => 1,
-        Length::Counted => 2,
-        Length::Song => 3,
-        Length::Unknown => 1,
+impl Length {
+    // The bytes up to the one that gives the length, the opcode among them.
+    fn header_size(self) -> usize
+        ensures { result ≡ header_size self }
+    {
+        match self {
+            Length::Fixed(_) | Length::Unknown => 1,
+            Length::Counted => 2,
+            Length::Song => 3,
+        }
+    }
+
+    // The data bytes after the header, once that is stored.
+    #[tactic(auto, unfolding(crate::specs::Push::body_size_as))]
+    fn body_size(self, bytes: &[u8; 35]) -> usize
+        ensures { result ≡ body_size_as self bytes.now }
+    {
+        match self {
+            Length::Fixed(n) => n,
+            Length::Counted => usize::from(bytes[1]),
+            Length::Song => 2 * usize::from(bytes[2]),
+            Length::Unknown => 0,
+        }
+    }
+
+    // Whether those are stored: not past a legal count, and not in a 152.
+    fn stores_body(self, bytes: &[u8; 35]) -> bool
+        ensures { result ≡ stores_body_as self bytes.now }
+    {
+        match self {
+            Length::Counted => bytes[0] != 152 && bytes[1] <= LEGAL_COUNT,
+            Length::Song => bytes[2] <= LEGAL_COUNT,
+            Length::Fixed(_) | Length::Unknown => true,
+        }
     }
 }
 
-// The data bytes after the header, once that is stored.
-fn body_size(length: Length, bytes: [u8; 35]) -> usize
-    ensures { result ≡ body_size_as length bytes }
-{
-    match length {
-        Length::Fixed(n) => n,
-        Length::Counted => bytes[1] as usize,
-        Length::Song => 2 * (bytes[2] as usize),
-        Length::Unknown => 0,
-    }
-}
-
-// Whether those are stored: not past a legal count, and not in a 152.
-fn stores_body(length: Length, bytes: [u8; 35]) -> bool
-    ensures { result ≡ stores_body_as length bytes }
-{
-    match length {
-        Length::Fixed(_) => true,
-        Length::Counted => bytes[0] != 152 && bytes[1] <= LEGAL_COUNT,
-        Length::Song => bytes[2] <= LEGAL_COUNT,
-        Length::Unknown => true,
+impl Frame {
+    // One whose length is known is whole where nothing remains.
+    fn of(p: Partial) -> Frame
+        ensures { pushed_as result ≡ record { partial = p; complete = eqb p.remaining 0 } }
+    {
+        if p.remaining == 0 {
+            Frame::Whole(p)
+        } else {
+            Frame::Waits(p)
+        }
     }
 }
 
 // A byte while the length is not known: it is stored, and once the header is complete its body
 // remains, or the frame ends. A full frame, which no list of bytes leaves, stores nothing more.
-fn absorb_one(p: Partial, b: u8) -> Absorbed
-    ensures { result ≡ counted (measure_of (append_of p b)) 1 }
+fn absorb_one(p: Partial, b: u8) -> Frame
+    ensures { pushed_as result ≡ measure_of (append_of p b) }
 {
-    let mut bytes = p.bytes;
-    let mut count = p.count;
-    if count < 35 {
-        bytes[count] = b;
-        count += 1;
+    let mut next = p;
+    if next.count < 35 {
+        next.bytes[next.count] = b;
+        next.count += 1;
     }
-    let length = data_length(bytes[0]);
-    if count < header_size(length) {
-        return Absorbed {
-            partial: Partial {
-                bytes,
-                count,
-                remaining: p.remaining,
-            },
-            complete: false,
-            count: 1,
-        };
+    let length = data_length(next.bytes[0]);
+    if next.count < length.header_size() {
+        return Frame::Waits(next);
     }
-    let remaining = body_size(length, bytes);
-    Absorbed {
-        partial: Partial {
-            bytes,
-            count,
-            remaining,
-        },
-        complete: remaining == 0,
-        count: 1,
+    next.remaining = length.body_size(&next.bytes);
+    Frame::of(next)
+}
+
+// Whether n bytes of the body are stored: where the body is, and there is room for all of them.
+fn keeps(p: Partial, n: usize) -> bool
+    ensures { result ≡ keeps p n }
+{
+    data_length(p.bytes[0]).stores_body(&p.bytes) && n <= 35 && p.count <= 35 - n
+}
+
+// Bytes of the body, no more than remain.
+fn absorb_body(p: Partial, bytes: &[u8]) -> Frame
+    requires { length bytes.now ≤ p.remaining }
+    ensures { pushed_as result ≡ body_of p bytes.now }
+{
+    let mut next = p;
+    if keeps(p, bytes.len()) {
+        next.count = wire::put(bytes, &mut next.bytes, p.count);
     }
+    next.remaining -= bytes.len();
+    Frame::of(next)
 }
 
 // As many bytes at once as surely belong to one frame: one while its length is not known, and then
 // those that remain; of an empty slice none. On a reachable frame they leave what they leave one by
 // one (specs/Absorb.antt, TakenAtOnce). What is given on another is free (rule Q6): as many are
 // taken there, and those of a body are stored only where there is room for all of them.
-pub fn absorb(p: Partial, bytes: &[u8]) -> Absorbed
-    ensures { result ≡ absorb_of p bytes.now }
+#[tactic(auto, using(crate::proofs::AbsorbLaws::cases))]
+pub fn absorb(p: Partial, bytes: &[u8]) -> Taken
+    ensures { taken_as result ≡ absorb_of p bytes.now }
 {
-    if bytes.len() == 0 {
-        return Absorbed {
-            partial: p,
-            complete: false,
+    let Some(&b) = bytes.first() else {
+        return Taken {
+            frame: Frame::Waits(p),
             count: 0,
         };
-    }
-    let remaining = p.remaining;
-    if remaining == 0 {
-        return absorb_one(p, bytes[0]);
-    }
-    let n = if remaining < bytes.len() {
-        remaining
-    } else {
-        bytes.len()
     };
-    let mut held = p.bytes;
-    let mut count = p.count;
-    let length = data_length(held[0]);
-    if stores_body(length, held) && (n <= 35 && count <= 35 - n) {
-        count = wire::put_part(bytes, 0, n, &mut held, count);
+    if p.remaining == 0 {
+        return Taken {
+            frame: absorb_one(p, b),
+            count: 1,
+        };
     }
-    Absorbed {
-        partial: Partial {
-            bytes: held,
-            count,
-            remaining: remaining - n,
-        },
-        complete: remaining == n,
-        count: n,
+    let count = p.remaining.min(bytes.len());
+    Taken {
+        frame: absorb_body(p, &bytes[..count]),
+        count,
     }
 }
 
@@ -196,31 +208,29 @@ pub fn empty() -> Partial
     }
 }
 
+// What remains is what did not come of the body, and nothing until the length is known.
+fn remaining_right(p: Partial) -> bool
+    ensures { result ≡ remaining_right p }
+{
+    let length = data_length(p.bytes[0]);
+    let header = length.header_size();
+    if p.count < header {
+        return p.remaining == 0;
+    }
+    let body = length.body_size(&p.bytes);
+    if p.remaining == 0 || body < p.remaining {
+        return false;
+    }
+    if length.stores_body(&p.bytes) {
+        p.count - header == body - p.remaining
+    } else {
+        p.count == header
+    }
+}
+
 // Whether the frame table can leave this frame between two bytes.
 pub fn reachable(p: Partial) -> bool
     ensures { result ≡ reachable_of p }
 {
-    let bytes = p.bytes;
-    let count = p.count;
-    let remaining = p.remaining;
-    if !wire::clear_from(&bytes, count) {
-        return false;
-    }
-    let length = data_length(bytes[0]);
-    let header = header_size(length);
-    if count < header {
-        return remaining == 0;
-    }
-    if remaining == 0 {
-        return false;
-    }
-    let body = body_size(length, bytes);
-    if body < remaining {
-        return false;
-    }
-    if stores_body(length, bytes) {
-        count - header == body - remaining
-    } else {
-        count == header
-    }
+    wire::clear_from(&p.bytes, p.count) && remaining_right(p)
 }

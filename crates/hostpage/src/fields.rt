@@ -17,251 +17,194 @@
 //     motors   whether the motors are off
 //     was      the mode before the last act
 //     mode     the mode after it
-use crate::page;
-use crate::page::{Page, find, mark, say_fault};
+use crate::page::{Fault, Page, say_fault};
 use command::Command;
 use state::State;
-use terminal::{Out, bytes_from, ends, plus, say, say_bytes, say_form, which, wide, within};
+use terminal::{Listed, Out, Text, Write, say};
+use wire::Refusal;
+use words::{Mode, Value};
 
-// The fields, by their places among the names: first those that are bytes, last those that are
-// numbers, of which some are shown as words.
-const SENT: usize = 0;
+#[derive(Clone, Copy, Debug, PartialEq, Eq)]
+enum Field {
+    Bytes(Bytes),
+    Alone(Alone),
+}
 
-const BEFORE: usize = 1;
+// The fields that are bytes.
+#[derive(Clone, Copy, Debug, PartialEq, Eq)]
+enum Bytes {
+    Sent,
+    Before,
+    Answer,
+}
 
-const ANSWER: usize = 2;
+// The fields that stand alone between their braces.
+#[derive(Clone, Copy, Debug, PartialEq, Eq)]
+enum Alone {
+    Value,
+    Modes,
+    Hex,
+    Rest,
+    Written,
+    Number,
+    Length,
+    Room,
+    Stop,
+    Motors,
+    Was,
+    Mode,
+}
 
-const VALUE: usize = 3;
-
-const MODES: usize = 4;
-
-const HEX: usize = 5;
-
-const REST: usize = 6;
-
-const WRITTEN: usize = 7;
-
-const NUMBER: usize = 8;
-
-const LENGTH: usize = 9;
-
-const ROOM: usize = 10;
-
-const STOP: usize = 11;
-
-const MOTORS: usize = 12;
-
-const WAS: usize = 13;
-
-const FIELDS: usize = 15;
-
-// The bytes from a place to another, as code.
-fn say_range(out: &Out, bytes: &[u8], from: usize, to: usize) {
-    let end = within(to, bytes);
-    if from >= end {
-        mark(out, b'-');
-        return;
+impl Field {
+    fn named(word: &[u8]) -> Option<Field> {
+        Some(match word {
+            b"sent" => Field::Bytes(Bytes::Sent),
+            b"before" => Field::Bytes(Bytes::Before),
+            b"answer" => Field::Bytes(Bytes::Answer),
+            b"value" => Field::Alone(Alone::Value),
+            b"modes" => Field::Alone(Alone::Modes),
+            b"hex" => Field::Alone(Alone::Hex),
+            b"rest" => Field::Alone(Alone::Rest),
+            b"written" => Field::Alone(Alone::Written),
+            b"number" => Field::Alone(Alone::Number),
+            b"length" => Field::Alone(Alone::Length),
+            b"room" => Field::Alone(Alone::Room),
+            b"stop" => Field::Alone(Alone::Stop),
+            b"motors" => Field::Alone(Alone::Motors),
+            b"was" => Field::Alone(Alone::Was),
+            b"mode" => Field::Alone(Alone::Mode),
+            _ => return None,
+        })
     }
-    mark(out, b'`');
-    say_bytes(out, &bytes[from..end]);
-    mark(out, b'`');
 }
 
-// A part of them, where a place and a count pick one.
-#[derive(Clone, Copy)]
-struct Range {
-    from: usize,
-    to: usize,
-    ok: bool,
+// As many bytes from a place on as a count says, or as there are.
+fn part(bytes: &[u8], place: usize, count: usize) -> &[u8] {
+    let rest = &bytes[place.min(bytes.len())..];
+    &rest[..count.min(rest.len())]
 }
 
-fn least(a: usize, b: usize) -> usize {
-    if a < b { a } else { b }
-}
-
-fn picked(out: &Out, from: usize, to: usize, line_number: usize, text: &[u8], at: usize) -> Range {
-    let read = bytes_from(out, text, at, line_number);
-    let values = read.values;
-    let start = plus(from, wide(values[0]));
-    let size = wide(values[1]);
-    let end = if read.count == 0 {
-        to
-    } else {
-        least(to, plus(start, size))
+// All of them, or those that a place and a count pick; a place alone picks none.
+fn say_picked(out: &mut Out, bytes: &[u8], text: &mut Text<'_>) {
+    let Ok(numbers) = text.numbers(out) else {
+        return;
     };
-    Range {
-        from: start,
-        to: end,
-        ok: read.ok,
-    }
-}
-
-// The bytes given, or those that came back.
-fn say_part(out: &Out, page: Page, name: usize, range: Range) {
-    let given = page.given;
-    let answer = page.answer;
-    if !range.ok {
-        return;
-    }
-    if name == ANSWER {
-        say_range(out, &answer, range.from, range.to);
+    let bytes = match numbers.as_slice() {
+        [] => bytes,
+        [_] => b"",
+        [place, count, ..] => part(bytes, usize::from(*place), usize::from(*count)),
+    };
+    if bytes.is_empty() {
+        out.say(b"-");
     } else {
-        say_range(out, &given, range.from, range.to);
+        say!(out, "`{}`", Listed::new(bytes));
     }
 }
 
 // The fields that are bytes.
-fn say_listed(out: &Out, page: Page, name: usize, line_number: usize, text: &[u8], at: usize) {
-    let range = match name {
-        SENT => picked(out, page.from, page.end, line_number, text, at),
-        BEFORE => picked(out, 0, page.from, line_number, text, at),
-        _ => picked(out, 0, page.length, line_number, text, at),
+fn say_bytes(out: &mut Out, page: &Page, field: Bytes, text: &mut Text<'_>) {
+    let given = page.given.as_slice();
+    let (before, sent) = given.split_at(page.from.min(given.len()));
+    let bytes = match field {
+        Bytes::Sent => sent,
+        Bytes::Before => before,
+        Bytes::Answer => page.answer(),
     };
-    say_part(out, page, name, range);
+    say_picked(out, bytes, text);
 }
 
-fn say_command(out: &Out, page: Page) {
-    if !page.named {
-        mark(out, b'-');
-        return;
+fn say_value(out: &mut Out, page: &Page) {
+    match page.value {
+        Some(message) => say!(out, "`{}`", Value(message)),
+        None => out.say(b"-"),
     }
-    let frame = page.frame;
-    mark(out, b'`');
-    words::say_value(out, frame);
-    mark(out, b'`');
 }
 
-// Whether a command is for a mode: 0 if not, and else 1 for the first such mode and 2 for another.
-fn place_of(command: Command, mode: u8, before: usize) -> usize {
-    if !command::allowed(command, mode) {
-        return 0;
+// The modes that a command is for.
+fn say_modes(out: &mut Out, command: Command) {
+    let mut between = "";
+    for mode in [command::OFF, command::PASSIVE, command::SAFE, command::FULL] {
+        if command::allowed(command, mode) {
+            say!(out, "{between}{}", Mode(mode));
+            between = ", ";
+        }
     }
-    if before == 0 { 1 } else { 2 }
 }
 
-fn say_modes(out: &Out, page: Page) {
-    let message = page.message;
-    let command = message.command;
-    let off = place_of(command, command::OFF, 0);
-    let passive = place_of(command, command::PASSIVE, off);
-    let safe = place_of(command, command::SAFE, plus(off, passive));
-    let full = place_of(command, command::FULL, plus(off, plus(passive, safe)));
-    say_form(
-        out,
-        b"[0 |Off|, Off][1 |Passive|, Passive][2 |Safe|, Safe][3 |Full|, Full]",
-        [off, passive, safe, full, 0, 0, 0, 0],
-    );
-}
-
-// As code, with both its digits.
-fn say_hex(out: &Out, b: u8) {
-    say_form(
-        out,
-        b"`0x[0 0|1|2|3|4|5|6|7|8|9|A|B|C|D|E|F][1 0|1|2|3|4|5|6|7|8|9|A|B|C|D|E|F]`",
-        [wide(b / 16), wide(b % 16), 0, 0, 0, 0, 0, 0],
-    );
+// A mode by its name. A field of one that has none is left empty.
+fn say_mode(out: &mut Out, mode: u8) {
+    if mode <= command::FULL {
+        say!(out, "{}", Mode(mode));
+    }
 }
 
 // Motors are off where there is no wheel order and all three duties are 0.
-fn motors_off(state: State) -> usize {
-    let motors = state.motors;
-    let duties = motors.duties;
-    if motors.order == state::NO_ORDER && wire::clear_from(&duties, 0) {
-        return 1;
-    }
-    0
+fn motors_off(state: &State) -> bool {
+    state.motors.order == state::NO_ORDER && state.motors.duties == [0u8; 3]
 }
 
 // A run over 128s ends with the frame that is half read, and the next byte is an opcode; where
 // nothing is half read, the first byte is.
-fn to_opcode(state: State) -> usize {
-    let image = [0u8; 40];
+fn to_opcode(state: &State) -> usize {
+    if state.partial.count == 0 {
+        return 1;
+    }
     let mut buffer = [0u8; 64];
-    let starts = [128u8; 511];
-    let held = state.partial;
-    let ran = board::run(state, &starts, &image, &mut buffer);
-    if held.count == 0 {
-        1
-    } else {
-        plus(ran.read, 1)
-    }
-}
-
-// The fields that are a number; a mode is two more than its code.
-fn number_of(page: Page, name: usize) -> usize {
-    let state = page.state;
-    match name {
-        WRITTEN => wide(page.written),
-        NUMBER => wide(page.number),
-        LENGTH => page.length,
-        ROOM => page.room,
-        STOP => to_opcode(state),
-        MOTORS => motors_off(state),
-        WAS => plus(wide(page.was), 2),
-        _ => plus(wide(state.mode), 2),
-    }
-}
-
-// How they are shown: as a number, as yes and no, or as a mode.
-fn say_number(out: &Out, page: Page, name: usize) {
-    let n = number_of(page, name);
-    let shown = if name < MOTORS { 0 } else { plus(n, 1) };
-    say_form(
-        out,
-        b"[0 %1|no|yes|Off|Passive|Safe|Full]",
-        [shown, n, 0, 0, 0, 0, 0, 0],
-    );
+    let ran = board::run(*state, &[128u8; 511], &[0u8; 40], &mut buffer);
+    ran.read.saturating_add(1)
 }
 
 // A field that stands alone between its braces.
-fn say_alone(out: &Out, page: Page, name: usize, rest: &[u8]) {
-    match name {
-        VALUE => say_command(out, page),
-        MODES => say_modes(out, page),
-        HEX => say_hex(out, page.opcode),
-        REST => {
-            say(out, rest);
-        }
-        _ => say_number(out, page, name),
+fn say_alone(out: &mut Out, page: &Page, field: Alone, rest: &[u8]) {
+    match field {
+        Alone::Value => say_value(out, page),
+        Alone::Modes => say_modes(out, page.command),
+        Alone::Hex => say!(out, "`0x{:02X}`", page.opcode),
+        Alone::Rest => out.say(rest),
+        Alone::Written => say!(out, "{}", words::number(page.written.err())),
+        Alone::Number => say!(out, "{}", words::number(page.refusal())),
+        Alone::Length => say!(out, "{}", page.answer().len()),
+        Alone::Room => say!(out, "{}", page.room),
+        Alone::Stop => say!(out, "{}", to_opcode(&page.state)),
+        Alone::Motors => out.say(if motors_off(&page.state) {
+            b"yes"
+        } else {
+            b"no"
+        }),
+        Alone::Was => say_mode(out, page.was),
+        Alone::Mode => say_mode(out, page.state.mode),
     }
 }
 
 // A field by its name.
-fn field(out: &Out, page: Page, line_number: usize, text: &[u8], from: usize, rest: &[u8]) {
-    let word = line::next_word(text, from);
-    let start = word.start;
-    let end = word.end;
-    let name = which(
-        &text[start..end],
-        b"sent before answer value modes hex rest written number length room stop motors was mode",
-    );
-    if name >= FIELDS {
-        say_fault(out, line_number, start, page::NO_FIELD);
-        return;
-    }
-    if name < VALUE {
-        say_listed(out, page, name, line_number, text, end);
-    } else if ends(out, text, end, line_number) {
-        say_alone(out, page, name, rest);
+fn say_field(out: &mut Out, page: &Page, mut text: Text<'_>, rest: &[u8]) {
+    let start = text.place();
+    match Field::named(text.name()) {
+        Some(Field::Bytes(field)) => say_bytes(out, page, field, &mut text),
+        Some(Field::Alone(field)) if text.ends(out).is_ok() => say_alone(out, page, field, rest),
+        Some(Field::Alone(_)) => (),
+        None => say_fault(out, &text, start, Fault::NoField),
     }
 }
 
-// A line with its fields filled in, from a place on.
-pub fn fill(out: &Out, page: Page, line_number: usize, text: &[u8], from: usize, rest: &[u8]) {
-    let mut at = within(from, text);
-    while at < text.len() {
-        let open = find(text, at, b'{');
-        say(out, &text[at..open]);
-        if open == text.len() {
+// A line with its fields filled in, from its place on. They are found by place and not by `split`,
+// since what is wrong in one is told by its place in the whole line.
+pub fn fill(out: &mut Out, page: &Page, text: Text<'_>, rest: &[u8]) {
+    let mut at = text.at.min(text.bytes.len());
+    while let Some(open) = text.find(at, b'{') {
+        out.say(&text.bytes[at..open]);
+        let Some(close) = text.find(open, b'}') else {
+            say_fault(out, &text, open, Fault::OpenBrace);
+            at = text.bytes.len();
             break;
-        }
-        let close = find(text, open, b'}');
-        if close == text.len() {
-            say_fault(out, line_number, open, page::OPEN_BRACE);
-            break;
-        }
-        field(out, page, line_number, &text[0..close], open + 1, rest);
+        };
+        let inner = Text {
+            at: open + 1,
+            ..text
+        };
+        say_field(out, page, inner.up_to(close), rest);
         at = close + 1;
     }
-    mark(out, b'\n');
+    out.say(&text.bytes[at..]);
+    out.say(b"\n");
 }

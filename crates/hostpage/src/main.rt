@@ -30,98 +30,89 @@ mod fields;
 mod page;
 
 use acts::perform;
+use arrayvec::ArrayVec;
 use fields::fill;
-use page::{Page, bad, find, put, say_fault};
-use terminal::{Out, plus, within};
+use page::{Fault, Form, LONGEST, Page, say_fault};
+use terminal::{Input, Out, Text, Unread};
 
-// The most bytes of a line.
-const LONGEST: usize = 2048;
-
-// The layout of rows from here on. Its line is kept whole, so that places are those of the
-// template.
-fn set_form(out: &Out, page: Page, text: &[u8]) -> Page {
-    let mut form = [0u8; 256];
-    if !put(text, &mut form, 0) {
-        return bad(out, page, 256, page::LONG_FORM);
+// The layout of rows from here on.
+fn set_form(out: &mut Out, page: &mut Page, text: Text<'_>) {
+    let mut line = ArrayVec::new();
+    if line.try_extend_from_slice(text.bytes).is_err() {
+        say_fault(out, &text, 256, Fault::LongForm);
+        return;
     }
-    let mut next = page;
-    next.form = form;
-    next.form_size = text.len();
-    next.form_line_number = page.line_number;
-    next
+    page.form = Some(Form {
+        line,
+        number: text.number,
+    });
 }
 
 // The acts of a row, and the row: its layout begins after `@form `.
-fn row(out: &Out, page: Page, text: &[u8], from: usize) -> Page {
-    let bar = find(text, within(from, text), b'|');
-    let next = perform(out, page, &text[0..bar], from);
-    if next.form_size == 0 {
-        return bad(out, next, 0, page::NO_FORM);
-    }
-    let cells = line::next_word(text, plus(bar, 1));
-    let start = cells.start;
-    let form = next.form;
-    let size = within(next.form_size, &form);
-    fill(
-        out,
-        next,
-        next.form_line_number,
-        &form[0..size],
-        6,
-        &text[start..],
-    );
-    next
+fn row(out: &mut Out, page: &mut Page, text: Text<'_>) {
+    let bar = text.find(text.at, b'|').unwrap_or(text.bytes.len());
+    perform(out, page, text.up_to(bar));
+    let Some(form) = &page.form else {
+        say_fault(out, &text, 0, Fault::NoForm);
+        return;
+    };
+    let cells = Text {
+        at: bar.saturating_add(1),
+        ..text
+    };
+    let layout = Text {
+        bytes: form.line.as_slice(),
+        number: form.number,
+        at: 6,
+    };
+    let rest = cells.bytes.get(cells.place()..).unwrap_or(b"");
+    fill(out, page, layout, rest);
 }
 
 // A line that begins with @.
-fn by_directive(out: &Out, page: Page, text: &[u8]) -> Page {
-    let word = line::next_word(text, 0);
-    let start = word.start;
-    let end = word.end;
-    match terminal::which(&text[start..end], b"@# @do @form @row") {
-        0 => page,
-        1 => perform(out, page, text, end),
-        2 => set_form(out, page, text),
-        3 => row(out, page, text, end),
-        _ => bad(out, page, start, page::NO_DIRECTIVE),
+fn by_directive(out: &mut Out, page: &mut Page, mut text: Text<'_>) {
+    let Some(word) = text.word() else {
+        return;
+    };
+    match word.bytes {
+        b"@#" => (),
+        b"@do" => perform(out, page, text),
+        b"@form" => set_form(out, page, text),
+        b"@row" => row(out, page, text),
+        _ => say_fault(out, &text, word.start, Fault::NoDirective),
     }
 }
 
-// A line: its bytes are the first `size` of those lent.
-fn take(out: &Out, page: Page, line: &[u8], size: usize, cut: bool) -> Page {
-    if cut {
-        return bad(out, page, LONGEST, page::LONG_LINE);
+fn take(out: &mut Out, page: &mut Page, text: Text<'_>) {
+    match text.bytes {
+        [b'@', ..] => by_directive(out, page, text),
+        _ => fill(out, page, text, b""),
     }
-    let n = within(size, line);
-    let text = &line[0..n];
-    if text.len() > 0 && text[0] == b'@' {
-        return by_directive(out, page, text);
-    }
-    fill(out, page, page.line_number, text, 0, b"");
-    page
 }
 
-// A proved loop has to end, and nothing says that the input does: the turns count down from a
-// number that no run uses up.
+// A proved loop has to end, and nothing says that the input does: the turns count up to a number
+// that no run reaches.
 fn main(rt: HostRuntime) {
-    let out = Out::new();
-    let mut kept = [0u8; LONGEST];
-    let line: &mut [u8] = &mut kept;
-    let mut input = terminal::open(rt.stdin());
-    let mut page = page::blank();
-    let mut turns = u64::MAX;
-    while turns > 0 {
-        let got = terminal::next_line(input, line);
-        let rest = got.input;
-        input = rest;
-        if got.came != terminal::LINE {
-            if got.came == terminal::FAILED {
-                say_fault(&out, input.line_number, 0, page::NOT_READ);
+    let mut out = Out::new();
+    let mut input = Input::new(rt.stdin());
+    let mut room = [0u8; LONGEST];
+    let mut page = Page::new();
+    for _ in 0..u64::MAX {
+        let read = input.next_line(&mut out, &mut room);
+        let nothing = Text {
+            bytes: b"",
+            number: input.number(),
+            at: 0,
+        };
+        match read {
+            Ok(Some(text)) => take(&mut out, &mut page, text),
+            Ok(None) => break,
+            Err(Unread::TooLong) => say_fault(&mut out, &nothing, LONGEST, Fault::LongLine),
+            Err(Unread::Failed) => {
+                say_fault(&mut out, &nothing, 0, Fault::NotRead);
+                break;
             }
-            break;
         }
-        page.line_number = input.line_number;
-        page = take(&out, page, line, got.size, got.cut);
-        turns -= 1;
     }
+    out.flush();
 }

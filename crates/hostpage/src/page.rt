@@ -1,140 +1,121 @@
-// What is carried from line to line, and how words and bytes are found in a line.
-ghost use Rattle.std.specs.Prelude.{◌≤◌, length};
+// What is carried from line to line, what can be wrong with a line, and how a byte is found in it.
+ghost use Rattle.std.specs.Prelude.{◌≤◌, ◌<◌, length, IfSome};
 
+use arrayvec::ArrayVec;
 use command::{Command, Message};
 use state::State;
-use terminal::{Out, plus, say, say_form};
+use std::fmt;
+use std::fmt::Write;
+use terminal::{Out, Text, say};
+use wire::Refusal;
 
-// The record, the image and the room that are lent with each call, and what came of the last act:
-// the command where it had a name, with the first bytes of its frame, its opcode, the writer's
-// number, the mode before it, its bytes, which are those from `from` to `end` of all that were
-// given since power-on, and the number and the answer that came back.
-#[derive(Clone, Copy)]
+// The most bytes of a line.
+pub const LONGEST: usize = 2048;
+
+// The longest buffer that is lent.
+pub const ROOM: usize = 1024;
+
+pub type Answer = ArrayVec<u8, ROOM>;
+
+// The layout of rows: its line, which is kept whole, so that places are those of the template.
+#[derive(Drop)]
+pub struct Form {
+    pub line: ArrayVec<u8, 256>,
+    pub number: usize,
+}
+
+// The record, the image and the room that are lent with each call; the layout of rows; all bytes
+// given since power-on; and what came of the acts. Text goes to `Out`, which stands beside it.
+#[derive(Drop)]
 pub struct Page {
-    pub form: [u8; 256],
-    pub answer: [u8; 1024],
-    pub given: [u8; 512],
-    pub image: [u8; 40],
-    pub form_size: usize,
-    pub form_line_number: usize,
-    pub line_number: usize,
-    pub room: usize,
-    pub from: usize,
-    pub end: usize,
-    pub length: usize,
-    pub read: usize,
-    pub number: u8,
-    pub written: u8,
-    pub was: u8,
-    pub named: bool,
-    pub message: Message,
-    pub frame: [u8; 35],
-    pub opcode: u8,
     pub state: State,
+    pub image: [u8; 40],
+    pub room: usize,
+    pub form: Option<Form>,
+    pub given: ArrayVec<u8, 512>,
+    // The last command that had a name, and what the writer gave for it.
+    pub command: Command,
+    pub written: Result<(), Refusal>,
+    // The opcode of the last act that gave bytes, and that act as a value, where it had a name.
+    pub opcode: u8,
+    pub value: Option<Message>,
+    // Of the last act: the mode before it, as a record has it, which may be one without a name; the
+    // place in `given` of its first byte; and what came back.
+    pub was: u8,
+    pub from: usize,
+    pub came: Result<Answer, Refusal>,
 }
 
-// Byte i of the image is i, so that an answer shows which places it came from.
-fn counting() -> [u8; 40] {
-    *b"\x00\x01\x02\x03\x04\x05\x06\x07\x08\x09\x0a\x0b\x0c\x0d\x0e\x0f\x10\x11\x12\x13\x14\x15\
-    \x16\x17\x18\x19\x1a\x1b\x1c\x1d\x1e\x1f\x20\x21\x22\x23\x24\x25\x26\x27"
-}
-
-// Before the template's first line: the record is as at power-on, and any answer has room.
-pub fn blank() -> Page {
-    let message = Message {
-        command: Command::Start,
-        payload: [0u8; 32],
-    };
-    Page {
-        state: state::power_on(),
-        image: counting(),
-        room: 1024,
-        message,
-        frame: [0u8; 35],
-        opcode: 0,
-        named: false,
-        written: 0,
-        was: command::OFF,
-        given: [0u8; 512],
-        from: 0,
-        end: 0,
-        number: 0,
-        read: 0,
-        answer: [0u8; 1024],
-        length: 0,
-        form: [0u8; 256],
-        form_size: 0,
-        form_line_number: 0,
-        line_number: 0,
-    }
-}
-
-// What can be wrong with a line, by its place in the text below.
-pub const NO_DIRECTIVE: usize = 0;
-
-pub const NO_FIELD: usize = 1;
-
-pub const OPEN_BRACE: usize = 2;
-
-pub const NO_FORM: usize = 3;
-
-pub const LONG_FORM: usize = 4;
-
-pub const LONG_LINE: usize = 5;
-
-pub const ENDS_BEFORE: usize = 6;
-
-pub const MANY_GIVEN: usize = 7;
-
-pub const NOT_READ: usize = 8;
-
-// A message with its line and place, which is counted from 1.
-pub fn say_fault(out: &Out, line_number: usize, place: usize, fault: usize) {
-    say_form(
-        out,
-        b"line %0: place %1: [2 this is none of @#, @do, @form and @row|this is no field|\
-        the brace is not closed|no @form was given before this row|\
-        a layout has at most 256 bytes|the line has more than 2048 bytes and is left out|\
-        a frame ends before the last of the bytes|more than 512 bytes since power-on are not kept|\
-        the template cannot be read further]\n",
-        [line_number, plus(place, 1), fault, 0, 0, 0, 0, 0],
-    );
-}
-
-// A bad line or act is told, and changes nothing.
-pub fn bad(out: &Out, page: Page, place: usize, fault: usize) -> Page {
-    say_fault(out, page.line_number, place, fault);
-    page
-}
-
-// A single byte of text.
-pub fn mark(out: &Out, b: u8) {
-    say(out, &[b]);
-}
-
-// The place of a byte, from a place on, or the end of the text.
-pub fn find(text: &[u8], from: usize, b: u8) -> usize
-    requires { from ≤ length text.now }
-    ensures { (from ≤ result) × (result ≤ length text.now) }
-{
-    let mut i = from;
-    while i < text.len() {
-        if text[i] == b {
-            return i;
+impl Page {
+    // Before the template's first line: the record is as at power-on, and any answer has room. Byte
+    // i of the image is i, so that an answer shows which places it came from.
+    pub fn new() -> Page {
+        Page {
+            state: state::power_on(),
+            image: *b"\x00\x01\x02\x03\x04\x05\x06\x07\x08\x09\x0a\x0b\x0c\x0d\x0e\x0f\x10\x11\x12\
+            \x13\x14\x15\x16\x17\x18\x19\x1a\x1b\x1c\x1d\x1e\x1f\x20\x21\x22\x23\x24\x25\x26\x27",
+            room: ROOM,
+            form: None,
+            given: ArrayVec::new(),
+            command: Command::Start,
+            written: Ok(()),
+            opcode: 0,
+            value: None,
+            was: command::OFF,
+            from: 0,
+            came: Ok(Answer::new()),
         }
-        i += 1;
     }
-    i
+
+    // Why the last act was refused.
+    pub fn refusal(&self) -> Option<Refusal> {
+        match self.came {
+            Ok(_) => None,
+            Err(refusal) => Some(refusal),
+        }
+    }
+
+    // The bytes that came back from the last act.
+    pub fn answer(&self) -> &[u8] {
+        match &self.came {
+            Ok(answer) => answer.as_slice(),
+            Err(_) => b"",
+        }
+    }
 }
 
-// Bytes written at a place of a buffer, if there is room for all of them.
-pub fn put(bytes: &[u8], buffer: &mut [u8], at: usize) -> bool {
-    if at > buffer.len() {
-        return false;
+// What can be wrong with a line.
+#[derive(Clone, Copy, Debug, PartialEq, Eq)]
+pub enum Fault {
+    NoDirective,
+    NoField,
+    OpenBrace,
+    NoForm,
+    LongForm,
+    LongLine,
+    EndsBefore,
+    ManyGiven,
+    NotRead,
+}
+
+impl fmt::Display for Fault {
+    fn fmt<W: fmt::Write>(&self, f: &mut fmt::Formatter<W>) -> fmt::Result {
+        f.write_str(match self {
+            Fault::NoDirective => "this is none of @#, @do, @form and @row",
+            Fault::NoField => "this is no field",
+            Fault::OpenBrace => "the brace is not closed",
+            Fault::NoForm => "no @form was given before this row",
+            Fault::LongForm => "a layout has at most 256 bytes",
+            Fault::LongLine => "the line has more than 2048 bytes and is left out",
+            Fault::EndsBefore => "a frame ends before the last of the bytes",
+            Fault::ManyGiven => "more than 512 bytes since power-on are not kept",
+            Fault::NotRead => "the template cannot be read further",
+        })
     }
-    if bytes.len() > buffer.len() - at {
-        return false;
-    }
-    wire::put_part(bytes, 0, bytes.len(), buffer, at);
-    true
+}
+
+// A message with its line and place.
+pub fn say_fault(out: &mut Out, text: &Text<'_>, place: usize, fault: Fault) {
+    text.say_where(out, place);
+    say!(out, "{fault}\n");
 }

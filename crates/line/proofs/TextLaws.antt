@@ -1,148 +1,83 @@
--- Laws of lines, words and numbers: one turn of each loop.
+-- Laws of lines, words and numbers.
 -- Assumes nothing.
-use mathlib.Core.Path.{◌≡◌, refl, sym, ap, ◌∙◌}
-use mathlib.Core.Bool.{Bool, true, false, not, cond, and-false, false≢true}
-use mathlib.Core.List.{List, [], ◌∷◌}
-use mathlib.Core.Logic.{⊎_elim}
-use Prim.Native.Nat.{ℕ, suc, ◌+◌, ◌-◌, ◌*◌, ◌≤◌, ◌<◌}
-use native.Mathlib.Nat.{le-mul_of_pos_right}
-use native.Mathlib.Omega.{arith}
-use lib.Dec.{leb, eqb}
-use lib.ListN.{length, get_or, take, drop, drop_of_length-le, length-drop}
-use lib.Seq.{take-length}
-use borrow.Author.Tests.{le-leb, lt-leb}
-use Rattle.wire.specs.Lists.{all, within}
-use Rattle.wire.proofs.BoolLaws.{le_or_lt, pos_eqb, cond-true, cond-false}
-use Rattle.wire.proofs.ListsLaws.{drop_next}
-use Rattle.line.specs.Text.{digit_value, is_digit, front, fitting, largest, value_from, numeral_of, begins_hex}
-use Rattle.line.specs.declared.Number.TheVariants.{NotANumber, TooLarge, Plain}
+use Rattle.std.proofs.Common.{one-add, add-zero, length-drop, ltb, Some, None, ◌≡◌, refl, sym, Bool, true, false, not, ◌&&◌, cond, List, [], ◌∷◌, ℕ, suc, ◌+◌, ◌*◌, ◌≤◌, ◌<◌, min, length, drop, Result, Ok, Err, arith}
+use Rattle.std.proofs.lemmas.Grind.{common_steps}
+use lib.Seq.{drop-drop, drop-length}
+use borrow.Author.Tests.{le-leb, lt-ltb, le-ltb}
+use Rattle.std.specs.Prelude.{leb}
+use Rattle.std.specs.List.{prefix_len}
+use Rattle.wire.specs.Lists.{all}
+use Rattle.wire.proofs.BoolLaws.{pos_eqb}
+use Rattle.line.specs.Text.{is_blank, NoWord, part_size, fitting, told, gathered_of, digit_value, is_digit, largest, value_from, numeral_of}
+use Rattle.line.specs.declared.NoNumber.{NoNumber}
+use Rattle.line.specs.declared.NoNumber.TheVariants.{NotANumber, TooLarge}
 
--- ---- front
+-- ---- runs of bytes
 
-module _ (f : ℕ → Bool) (l : List ℕ) (i : ℕ) where
-  pub front_passed : i < length l → f (get_or l i 0) ≡ true → i + front f (drop i l) ≡ i + 1 + front f (drop (i + 1) l)
-  front_passed h e =
-      let k = front f (drop (i + 1) l) in
-      ap (λ (m : List ℕ). i + front f m) (drop_next l i h) ∙ ap (λ (n : ℕ). i + n) (cond-true (f (get_or l i 0)) (suc k) 0 e) ∙ omega arith
+-- what stands after a run of bytes does not pass: where the run of the bytes that do not is empty
+-- there, the list is over
+pub run_end : (f : ℕ → Bool) (xs : List ℕ) → prefix_len (λ b. not (f b)) (drop (prefix_len f xs) xs) ≡ 0 → prefix_len f xs ≡ length xs
+run_end f [] h = refl
+run_end f (x ∷ xs) h = go (f x) refl (run_end f xs) h
+  where
+    go : (t : Bool) → f x ≡ t → (prefix_len (λ b. not (f b)) (drop (prefix_len f xs) xs) ≡ 0 → prefix_len f xs ≡ length xs)
+        → prefix_len (λ b. not (f b)) (drop (cond t (1 + prefix_len f xs) 0) (x ∷ xs)) ≡ 0 → cond t (1 + prefix_len f xs) 0 ≡ suc (length xs)
+    go true e i k = let k = i (rw one-add at k) in omega (arith, k)
+    go false e i k = let k = simp e at k in absurd (omega arith)
 
-  pub front_stopped : i < length l → f (get_or l i 0) ≡ false → i + front f (drop i l) ≡ i
-  front_stopped h e =
-      let k = front f (drop (i + 1) l) in
-      ap (λ (m : List ℕ). i + front f m) (drop_next l i h) ∙ ap (λ (n : ℕ). i + n) (cond-false (f (get_or l i 0)) (suc k) 0 e) ∙ omega arith
-
-  pub front_over : length l ≤ i → i + front f (drop i l) ≡ i
-  front_over h = ap (λ (m : List ℕ). i + front f m) (drop_of_length-le l h) ∙ omega arith
-
--- ---- within
-
-module _ (lo hi b : ℕ) where
-  pub inside : lo ≤ b → b ≤ hi → within lo hi b ≡ true
-  inside h k = simp (le-leb lo b h, le-leb b hi k)
-
-  pub below : b < lo → within lo hi b ≡ false
-  below h = simp (lt-leb lo b h)
-
-  pub above : hi < b → within lo hi b ≡ false
-  above h = simp (lt-leb b hi h, and-false (leb lo b))
-
--- ---- value_from
-
-pub value_next : (base acc : ℕ) (l : List ℕ) (i : ℕ) → i < length l
-    → value_from base acc (drop i l) ≡ value_from base (acc * base + digit_value (get_or l i 0)) (drop (i + 1) l)
-value_next base acc l i h = ap (value_from base acc) (drop_next l i h)
-
--- digits that follow make no number less
-value_le : (base acc : ℕ) (l : List ℕ) → 1 ≤ base → acc ≤ value_from base acc l
-value_le base acc [] h = omega arith
-value_le base acc (d ∷ ds) h = omega (arith, le-mul_of_pos_right acc h, value_le base (acc * base + digit_value d) ds h)
-
--- a number as the code holds it, which stops above the greatest
-abbrev pub capped : ℕ → ℕ
-capped n = cond (leb n largest) n (suc largest)
-
-capped_plain : (n : ℕ) → n ≤ largest → capped n ≡ n
-capped_plain n h = rw (le-leb n largest h)
-
-capped_large : (n : ℕ) → largest < n → capped n ≡ suc largest
-capped_large n h = rw (lt-leb n largest h)
-
--- to stop before the other digits changes nothing of that
-pub capped_value : (base acc : ℕ) (l : List ℕ) → 1 ≤ base → capped (value_from base acc l) ≡ capped (value_from base (capped acc) l)
-capped_value base acc l b =
-    ⊎_elim (λ (h : acc ≤ largest). ap (λ (n : ℕ). capped (value_from base n l)) (sym (capped_plain acc h)))
-    (λ (h : largest < acc).
-    let e = capped_large acc h in
-    let j : largest < value_from base acc l = omega (arith, value_le base acc l b) in
-    let k : largest < value_from base (capped acc) l = omega (arith, e, value_le base (capped acc) l b) in
-    capped_large (value_from base acc l) j ∙ sym (capped_large (value_from base (capped acc) l) k))
-    (le_or_lt acc largest)
-
--- what is held tells the number, or that it is above the greatest
-module _ (n v : ℕ) (e : capped n ≡ capped v) where
-  pub held_plain : v ≤ largest → n ≡ v
-  held_plain h =
-      let f = capped_plain v h in
-      ⊎_elim (λ (k : n ≤ largest). sym (capped_plain n k) ∙ e ∙ f) (λ (k : largest < n). let g = capped_large n k in absurd (omega (arith, e, f, g)))
-      (le_or_lt n largest)
-
-  pub held_large : largest < v → largest < n
-  held_large h =
-      let f = capped_large v h in
-      ⊎_elim (λ (k : n ≤ largest). let g = capped_plain n k in absurd (omega (arith, e, f, g))) (λ (k : largest < n). k) (le_or_lt n largest)
+-- only blanks are left
+pub no_word : (text : List ℕ) (from : ℕ) → from ≤ length text
+    → prefix_len (λ b. not (is_blank b)) (drop (from + prefix_len is_blank (drop from text)) text) ≡ 0 → NoWord text from
+no_word text from h z =
+    let e : prefix_len is_blank (drop from text) ≡ length (drop from text) = run_end is_blank (drop from text) (rw drop-drop z) in
+    let end : from + prefix_len is_blank (drop from text) ≡ length text = omega (arith, e, length-drop from text) in
+    rw (le-leb from (length text) h, end, drop-length text, add-zero) refl
 
 -- ---- numeral_of
 
-module _ (base : ℕ) (ds : List ℕ) where
-  pub numeral_none : length ds ≡ 0 → numeral_of base ds ≡ NotANumber
-  numeral_none e = simp e
+-- the number so far as the code holds it, which stops above the greatest
+abbrev pub capped : ℕ → ℕ
+capped n = min n (suc largest)
 
-  pub numeral_not : all (is_digit base) ds ≡ false → numeral_of base ds ≡ NotANumber
-  numeral_not e = simp (e, and-false (not (eqb (length ds) 0)))
+-- what the code makes of the digits that are left
+abbrev pub read_from : ℕ → ℕ → List ℕ → Result ℕ NoNumber
+read_from base acc [] = cond (leb acc largest) (Ok acc) (Err TooLarge)
+read_from base acc (d ∷ ds) = cond (is_digit base d) (read_from base (capped (acc * base + digit_value d)) ds) (Err NotANumber)
 
-  module _ (h : 0 < length ds) (e : all (is_digit base) ds ≡ true) where
-    pub numeral_plain : value_from base 0 ds ≤ largest → numeral_of base ds ≡ Plain (value_from base 0 ds)
-    numeral_plain l = simp (pos_eqb (length ds) h, e, le-leb (value_from base 0 ds) largest l)
+-- to stop above the greatest changes nothing
+capped_turn : (base acc d : ℕ) → 1 ≤ base → capped (capped acc * base + d) ≡ capped (acc * base + d)
+capped_turn base acc d h = grind (arith, common_steps)
 
-    pub numeral_large : largest < value_from base 0 ds → numeral_of base ds ≡ TooLarge
-    numeral_large l = simp (pos_eqb (length ds) h, e, lt-leb (value_from base 0 ds) largest l)
+-- what `numeral_of` says, after digits that said acc
+abbrev numeral_from : ℕ → ℕ → List ℕ → Result ℕ NoNumber
+numeral_from base acc ds = cond (all (is_digit base) ds) (cond (leb (value_from base acc ds) largest) (Ok (value_from base acc ds)) (Err TooLarge)) (Err NotANumber)
 
--- ---- begins_hex
+read_is : (base acc : ℕ) (ds : List ℕ) → 1 ≤ base → read_from base (capped acc) ds ≡ numeral_from base acc ds
+read_is base acc [] h = grind (arith, common_steps)
+read_is base acc (d ∷ ds) h = go (is_digit base d) (read_is base (acc * base + digit_value d) ds h)
+  where
+    go : (t : Bool) → read_from base (capped (acc * base + digit_value d)) ds ≡ numeral_from base (acc * base + digit_value d) ds
+        → cond t (read_from base (capped (capped acc * base + digit_value d)) ds) (Err NotANumber)
+        ≡ cond (t && all (is_digit base) ds) (cond (leb (value_from base (acc * base + digit_value d) ds) largest) (Ok (value_from base (acc * base + digit_value d) ds)) (Err TooLarge)) (Err NotANumber)
+    go true i = rw (capped_turn base acc (digit_value d) h) i
+    go false i = refl
 
--- a word of fewer than two bytes does not begin with 0x
-pub hex_short : (word : List ℕ) → length word < 2 → begins_hex word ≡ false
-hex_short [] h = refl
-hex_short (a ∷ []) h = and-false (eqb a 48)
-hex_short (a ∷ b ∷ bs) h = absurd (omega arith)
-
-pub hex_length : (word : List ℕ) → begins_hex word ≡ true → 2 ≤ length word
-hex_length word e = ⊎_elim (λ (h : 2 ≤ length word). h) (λ (h : length word < 2). absurd (false≢true (sym (hex_short word h) ∙ e))) (le_or_lt 2 (length word))
+pub numeral_is : (base : ℕ) (ds : List ℕ) → 1 ≤ base → 0 < length ds → numeral_of base ds ≡ read_from base 0 ds
+numeral_is base [] h k = absurd (omega arith)
+numeral_is base (d ∷ ds) h k = rw (pos_eqb (suc (length ds)) (omega arith)) (sym (read_is base 0 (d ∷ ds) h))
 
 -- ---- parts
 
--- what is lent of a word after its first k bytes
-pub rest_is : (l : List ℕ) (k : ℕ) → take (length l - k) (drop k l) ≡ drop k l
-rest_is l k = ap (λ (n : ℕ). take n (drop k l)) (sym (length-drop k l)) ∙ take-length (drop k l)
+module _ (block : List ℕ) (from size room : ℕ) where
+  abbrev part : ℕ
+  part = part_size block from
 
-pub front_le : (f : ℕ → Bool) (l : List ℕ) → front f l ≤ length l
-front_le f [] = omega arith
-front_le f (b ∷ bs) = go (f b) (front_le f bs)
-  where
-    go : (t : Bool) → front f bs ≤ length bs → cond t (suc (front f bs)) 0 ≤ suc (length bs)
-    go true h = omega arith
-    go false h = omega arith
+  abbrev fits : ℕ
+  fits = fitting part size room
 
--- no more than there are, and no more than have room
-pub fitting_le : (n size room : ℕ) → fitting n size room ≤ n
-fitting_le n size room = ⊎_elim (λ (h : n ≤ room - size). let e = le-leb n (room - size) h in rw e (omega arith)) (λ (h : room - size < n). let e = lt-leb n (room - size) h in rw e (omega arith)) (le_or_lt n (room - size))
+  -- with its newline, and without
+  pub ended : part < length (drop from block) → told block from (Some (from + part + 1)) (size + fits) (ltb fits part) ≡ gathered_of block from size room
+  ended h = rw (lt-ltb (from + part) (length block) (omega (arith, h, length-drop from block))) refl
 
-pub fitting_room : (n size room : ℕ) → fitting n size room ≤ room - size
-fitting_room n size room = ⊎_elim (λ (h : n ≤ room - size). let e = le-leb n (room - size) h in rw e (omega arith)) (λ (h : room - size < n). let e = lt-leb n (room - size) h in rw e (omega arith)) (le_or_lt n (room - size))
-
--- ---- places
-
-pub least_le : (a b : ℕ) → cond (leb a b) a b ≤ b
-least_le a b = ⊎_elim (λ (h : a ≤ b). let e = le-leb a b h in rw e (omega arith)) (λ (h : b < a). let e = lt-leb a b h in rw e (omega arith)) (le_or_lt a b)
-
--- bytes that are passed over lie in the text
-pub pass_le : (f : ℕ → Bool) (l : List ℕ) (i : ℕ) → i ≤ length l → i + front f (drop i l) ≤ length l
-pass_le f l i h = let k = front_le f (drop i l) in omega (arith, k, length-drop i l)
+  pub unended : length (drop from block) ≤ part → told block from None (size + fits) (ltb fits part) ≡ gathered_of block from size room
+  unended h = rw (le-ltb (from + part) (length block) (omega (arith, h, length-drop from block))) refl

@@ -1,27 +1,29 @@
 -- Lines, words and numbers, in bytes: what the reader says of them is written out.
 -- Assumes nothing.
-use Rattle.std.specs.Prelude.{Bool, true, false, ◌&&◌, List, [], ◌∷◌, ◌++◌, ℕ, ◌+◌, ◌*◌, T, eqb, replicate}
+use Rattle.std.specs.Prelude.{Bool, true, false, ◌&&◌, List, [], ◌∷◌, ◌++◌, ℕ, ◌+◌, ◌*◌, T, eqb, replicate, Result, Ok, Err}
 use Rattle.std.specs.Bool.{beq}
 use Rattle.wire.specs.Lists.{all, same_list}
 use Rattle.line.specs.Text.{word_from, signed_of, part_of, gathered_of}
 use Rattle.line.specs.declared.Number.{Number}
-use Rattle.line.specs.declared.Number.TheVariants.{NotANumber, TooLarge, Plain, Minus}
+use Rattle.line.specs.declared.Number.TheVariants.{Plain, Minus}
+use Rattle.line.specs.declared.NoNumber.{NoNumber}
+use Rattle.line.specs.declared.NoNumber.TheVariants.{NotANumber, TooLarge}
 
 -- ---- numbers
 
 -- one number for each
-abbrev code : Number → ℕ
-code NotANumber = 0
-code TooLarge = 1
-code (Plain n) = 2 + 2 * n
-code (Minus n) = 3 + 2 * n
+abbrev code : Result Number NoNumber → ℕ
+code (Err NotANumber) = 0
+code (Err TooLarge) = 1
+code (Ok (Plain n)) = 2 + 2 * n
+code (Ok (Minus n)) = 3 + 2 * n
 
 -- a word, and what it says
 pub record Said : Type 0 where
   pub word : List ℕ
-  pub number : Number
+  pub number : Result Number NoNumber
 
-abbrev says : List ℕ → Number → Said
+abbrev says : List ℕ → Result Number NoNumber → Said
 says word n = record { word = word; number = n }
 
 -- 0x before digits
@@ -31,58 +33,58 @@ hex ds = 48 ∷ 120 ∷ ds
 abbrev pub number_cases : List Said
 number_cases =
     -- 0, 255, 007, 65535, 65536, twelve 9s
-    says (48 ∷ []) (Plain 0)
-    ∷ says (50 ∷ 53 ∷ 53 ∷ []) (Plain 255)
-    ∷ says (48 ∷ 48 ∷ 55 ∷ []) (Plain 7)
-    ∷ says (54 ∷ 53 ∷ 53 ∷ 51 ∷ 53 ∷ []) (Plain 65535)
-    ∷ says (54 ∷ 53 ∷ 53 ∷ 51 ∷ 54 ∷ []) TooLarge
-    ∷ says (replicate 12 57) TooLarge
+    says (48 ∷ []) (Ok (Plain 0))
+    ∷ says (50 ∷ 53 ∷ 53 ∷ []) (Ok (Plain 255))
+    ∷ says (48 ∷ 48 ∷ 55 ∷ []) (Ok (Plain 7))
+    ∷ says (54 ∷ 53 ∷ 53 ∷ 51 ∷ 53 ∷ []) (Ok (Plain 65535))
+    ∷ says (54 ∷ 53 ∷ 53 ∷ 51 ∷ 54 ∷ []) (Err TooLarge)
+    ∷ says (replicate 12 57) (Err TooLarge)
     -- -500, -0, -65535, -65536
-    ∷ says (45 ∷ 53 ∷ 48 ∷ 48 ∷ []) (Minus 500)
-    ∷ says (45 ∷ 48 ∷ []) (Minus 0)
-    ∷ says (45 ∷ 54 ∷ 53 ∷ 53 ∷ 51 ∷ 53 ∷ []) (Minus 65535)
-    ∷ says (45 ∷ 54 ∷ 53 ∷ 53 ∷ 51 ∷ 54 ∷ []) TooLarge
+    ∷ says (45 ∷ 53 ∷ 48 ∷ 48 ∷ []) (Ok (Minus 500))
+    ∷ says (45 ∷ 48 ∷ []) (Ok (Minus 0))
+    ∷ says (45 ∷ 54 ∷ 53 ∷ 53 ∷ 51 ∷ 53 ∷ []) (Ok (Minus 65535))
+    ∷ says (45 ∷ 54 ∷ 53 ∷ 53 ∷ 51 ∷ 54 ∷ []) (Err TooLarge)
     -- nothing, a sign alone, two signs, a plus; a letter, the bytes beside the digits, twelve 9s
     -- and a letter
-    ∷ says [] NotANumber
-    ∷ says (45 ∷ []) NotANumber
-    ∷ says (45 ∷ 45 ∷ 49 ∷ []) NotANumber
-    ∷ says (43 ∷ 49 ∷ []) NotANumber
-    ∷ says (49 ∷ 97 ∷ []) NotANumber
-    ∷ says (47 ∷ []) NotANumber
-    ∷ says (58 ∷ []) NotANumber
-    ∷ says (replicate 12 57 ++ (97 ∷ [])) NotANumber
+    ∷ says [] (Err NotANumber)
+    ∷ says (45 ∷ []) (Err NotANumber)
+    ∷ says (45 ∷ 45 ∷ 49 ∷ []) (Err NotANumber)
+    ∷ says (43 ∷ 49 ∷ []) (Err NotANumber)
+    ∷ says (49 ∷ 97 ∷ []) (Err NotANumber)
+    ∷ says (47 ∷ []) (Err NotANumber)
+    ∷ says (58 ∷ []) (Err NotANumber)
+    ∷ says (replicate 12 57 ++ (97 ∷ [])) (Err NotANumber)
     -- 0x80, 0x0, 0x009, 0xFFFF, 0xffff, 0xaF, 0x10000, twelve Fs
-    ∷ says (hex (56 ∷ 48 ∷ [])) (Plain 128)
-    ∷ says (hex (48 ∷ [])) (Plain 0)
-    ∷ says (hex (48 ∷ 48 ∷ 57 ∷ [])) (Plain 9)
-    ∷ says (hex (replicate 4 70)) (Plain 65535)
-    ∷ says (hex (replicate 4 102)) (Plain 65535)
-    ∷ says (hex (97 ∷ 70 ∷ [])) (Plain 175)
-    ∷ says (hex (49 ∷ replicate 4 48)) TooLarge
-    ∷ says (hex (replicate 12 70)) TooLarge
+    ∷ says (hex (56 ∷ 48 ∷ [])) (Ok (Plain 128))
+    ∷ says (hex (48 ∷ [])) (Ok (Plain 0))
+    ∷ says (hex (48 ∷ 48 ∷ 57 ∷ [])) (Ok (Plain 9))
+    ∷ says (hex (replicate 4 70)) (Ok (Plain 65535))
+    ∷ says (hex (replicate 4 102)) (Ok (Plain 65535))
+    ∷ says (hex (97 ∷ 70 ∷ [])) (Ok (Plain 175))
+    ∷ says (hex (49 ∷ replicate 4 48)) (Err TooLarge)
+    ∷ says (hex (replicate 12 70)) (Err TooLarge)
     -- -0x10, -0x1F4, -0xFFFF, -0x10000
-    ∷ says (45 ∷ hex (49 ∷ 48 ∷ [])) (Minus 16)
-    ∷ says (45 ∷ hex (49 ∷ 70 ∷ 52 ∷ [])) (Minus 500)
-    ∷ says (45 ∷ hex (replicate 4 70)) (Minus 65535)
-    ∷ says (45 ∷ hex (49 ∷ replicate 4 48)) TooLarge
+    ∷ says (45 ∷ hex (49 ∷ 48 ∷ [])) (Ok (Minus 16))
+    ∷ says (45 ∷ hex (49 ∷ 70 ∷ 52 ∷ [])) (Ok (Minus 500))
+    ∷ says (45 ∷ hex (replicate 4 70)) (Ok (Minus 65535))
+    ∷ says (45 ∷ hex (49 ∷ replicate 4 48)) (Err TooLarge)
     -- 0x, -0x, 0x-1, 0X80, x80, 00x80, 0x0x8; ff, which is no decimal number
-    ∷ says (hex []) NotANumber
-    ∷ says (45 ∷ hex []) NotANumber
-    ∷ says (hex (45 ∷ 49 ∷ [])) NotANumber
-    ∷ says (48 ∷ 88 ∷ 56 ∷ 48 ∷ []) NotANumber
-    ∷ says (120 ∷ 56 ∷ 48 ∷ []) NotANumber
-    ∷ says (48 ∷ hex (56 ∷ 48 ∷ [])) NotANumber
-    ∷ says (hex (hex (56 ∷ []))) NotANumber
-    ∷ says (102 ∷ 102 ∷ []) NotANumber
+    ∷ says (hex []) (Err NotANumber)
+    ∷ says (45 ∷ hex []) (Err NotANumber)
+    ∷ says (hex (45 ∷ 49 ∷ [])) (Err NotANumber)
+    ∷ says (48 ∷ 88 ∷ 56 ∷ 48 ∷ []) (Err NotANumber)
+    ∷ says (120 ∷ 56 ∷ 48 ∷ []) (Err NotANumber)
+    ∷ says (48 ∷ hex (56 ∷ 48 ∷ [])) (Err NotANumber)
+    ∷ says (hex (hex (56 ∷ []))) (Err NotANumber)
+    ∷ says (102 ∷ 102 ∷ []) (Err NotANumber)
     -- the bytes beside the digits, 0x/, 0x:, 0x@, 0xG, 0x`, 0xg; twelve Fs and a g
-    ∷ says (hex (47 ∷ [])) NotANumber
-    ∷ says (hex (58 ∷ [])) NotANumber
-    ∷ says (hex (64 ∷ [])) NotANumber
-    ∷ says (hex (71 ∷ [])) NotANumber
-    ∷ says (hex (96 ∷ [])) NotANumber
-    ∷ says (hex (103 ∷ [])) NotANumber
-    ∷ says (hex (replicate 12 70 ++ (103 ∷ []))) NotANumber
+    ∷ says (hex (47 ∷ [])) (Err NotANumber)
+    ∷ says (hex (58 ∷ [])) (Err NotANumber)
+    ∷ says (hex (64 ∷ [])) (Err NotANumber)
+    ∷ says (hex (71 ∷ [])) (Err NotANumber)
+    ∷ says (hex (96 ∷ [])) (Err NotANumber)
+    ∷ says (hex (103 ∷ [])) (Err NotANumber)
+    ∷ says (hex (replicate 12 70 ++ (103 ∷ []))) (Err NotANumber)
     ∷ []
 
 abbrev pub number_right : Said → Bool

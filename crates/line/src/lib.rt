@@ -2,198 +2,165 @@
 // person types. Places are indices of the line, from 0.
 #![tactic(auto)]
 
-ghost use Rattle.std.specs.Prelude.{◌≡◌, cond, ◌+◌, ◌-◌, ◌≤◌, leb, length, drop};
-ghost use Rattle.wire.specs.Buffer.{placed};
-ghost use Rattle.line.specs.Text.{is_blank, digit_value, begins_hex, front, passes, word_from, numeral_of, unsigned_of, signed_of, part_of, gathered_of};
+ghost use Rattle.std.specs.Prelude.{◌≡◌, ◌+◌, ◌*◌, ◌≤◌, ◌<◌, ◌^◌, not, length, IfOk, MatchOption};
+ghost use Rattle.std.specs.List.{prefix_len};
+ghost use Rattle.line.specs.Text.{is_blank, is_newline, largest, size_of, numeral_of, unsigned_of, signed_of, NoWord, IsWord, IsGathered};
 
 // What a word says as a number.
-#[derive(Clone, Copy)]
+#[derive(Clone, Copy, Debug, PartialEq, Eq)]
 pub enum Number {
-    NotANumber,
-    // Above 65535.
-    TooLarge,
     Plain(usize),
     // With a minus sign.
     Minus(usize),
 }
 
-// A word of a text: the places of its first byte and after its last.
-#[derive(Clone, Copy)]
-pub struct Word {
-    pub start: usize,
-    pub end: usize,
+// Why a word says no number.
+#[derive(Clone, Copy, Debug, PartialEq, Eq)]
+pub enum NoNumber {
+    NotANumber,
+    // Above 65535.
+    TooLarge,
 }
 
-// What a part of a line leaves: the place in the block after it, how many bytes the line has now,
-// whether its newline was there, and whether bytes did not fit.
+// A word of a text, and the place of its first byte.
 #[derive(Clone, Copy)]
+pub struct Word<'a> {
+    pub bytes: &'a [u8],
+    pub start: usize,
+    pub ghost fits: { start + length bytes.now < 2 ^ 64 },
+}
+
+impl Word<'_> {
+    // The place after its last byte.
+    pub fn end(&self) -> usize
+        ensures { result ≡ self.now.start + length self.now.bytes.now }
+    {
+        self.start + self.bytes.len()
+    }
+}
+
+// What a part of a line leaves: the place in the block after its newline, where that is there, how
+// many bytes the line has now, and whether bytes did not fit.
+#[derive(Clone, Copy, Debug, PartialEq, Eq)]
 pub struct Gathered {
-    pub next: usize,
+    pub next: Option<usize>,
     pub size: usize,
-    pub ended: bool,
     pub cut: bool,
 }
 
-// What is passed over: blanks, the bytes of a word, those of a line.
-const BLANKS: u8 = 0;
+// The greatest number that is read.
+const LARGEST: u32 = 65535;
 
-const WORD: u8 = 1;
-
-const LINE: u8 = 2;
-
-const LARGEST: usize = 65535;
-
+// A space, a tab, or the carriage return of a line that ends in two bytes.
 fn is_blank(b: u8) -> bool
     ensures { result ≡ is_blank b }
 {
-    b == 32 || (b == 9 || b == 13)
+    matches!(b, b' ' | b'\t' | b'\r')
 }
 
-// What a byte is worth as a digit. A byte that is no digit is worth 16, more than any digit of a
-// base up to 16.
-fn digit_value(b: u8) -> usize
-    ensures { result ≡ digit_value b }
+// The three below differ in their test. One function over it would have to carry the test's
+// definition into its contract, and would be longer than a line.
+
+// How many bytes at the front are blanks.
+fn blanks(text: &[u8]) -> usize
+    ensures value { result ≡ prefix_len is_blank text.now }
+    ensures bound { result ≤ length text.now }
 {
-    match b {
-        b'0'..=b'9' => (b - b'0') as usize,
-        b'A'..=b'F' => (b - b'A' + 10) as usize,
-        b'a'..=b'f' => (b - b'a' + 10) as usize,
-        _ => 16,
+    text.iter().take_while(|&&b| is_blank(b)).count()
+}
+
+// How many bytes at the front are none, as those of a word.
+fn word_size(text: &[u8]) -> usize
+    ensures value { result ≡ prefix_len (λ b. not (is_blank b)) text.now }
+    ensures bound { result ≤ length text.now }
+{
+    text.iter().take_while(|&&b| !is_blank(b)).count()
+}
+
+// How many bytes at the front are no newline.
+fn line_size(text: &[u8]) -> usize
+    ensures value { result ≡ prefix_len (λ b. not (is_newline b)) text.now }
+    ensures bound { result ≤ length text.now }
+{
+    text.iter().take_while(|&&b| b != b'\n').count()
+}
+
+// The next word from a place on, where there is one.
+pub fn next_word<'a>(text: &'a [u8], from: usize) -> Option<Word<'a>>
+    ensures { MatchOption result (NoWord text.now from) (λ w. IsWord text.now from w.start w.bytes.now) }
+{
+    let rest = text.get(from..)?;
+    let start = from + blanks(rest);
+    let rest = &text[start..];
+    let bytes = &rest[..word_size(rest)];
+    if bytes.is_empty() {
+        return None;
     }
-}
-
-fn is_passed(kind: u8, b: u8) -> bool
-    ensures { result ≡ passes kind b }
-{
-    match kind {
-        BLANKS => is_blank(b),
-        WORD => !is_blank(b),
-        _ => b != 10,
-    }
-}
-
-// The place after the bytes that are passed over, from a place on.
-fn pass(text: &[u8], from: usize, kind: u8) -> usize
-    ensures { result ≡ from + front (passes kind) (drop from text.now) }
-{
-    let mut i = from;
-    while i < text.len() {
-        if !is_passed(kind, text[i]) {
-            return i;
-        }
-        i += 1;
-    }
-    i
-}
-
-// Where a line ends: at its newline, or at the end of the text.
-fn line_end(text: &[u8], from: usize) -> usize
-    ensures { result ≡ from + front (passes 2) (drop from text.now) }
-{
-    pass(text, from, LINE)
-}
-
-fn least(a: usize, b: usize) -> usize
-    ensures { result ≡ cond (leb a b) a b }
-{
-    if a <= b { a } else { b }
-}
-
-// The next word from a place on; it is empty, and stands at the end, where there is none. It lies
-// in the text, so that a caller may lend `&text[start..end]`.
-pub fn next_word(text: &[u8], from: usize) -> Word
-    ensures { (result ≡ word_from text.now from) × ((result.start ≤ result.end) × (result.end ≤ length text.now)) }
-{
-    let at = least(from, text.len());
-    let start = pass(text, at, BLANKS);
-    let end = pass(text, start, WORD);
-    Word { start, end }
+    Some(Word { bytes, start })
 }
 
 // A number in a base: digits up to the end of the word. The base is small, so that a product fits.
-fn numeral(word: &[u8], base: usize) -> Number
-    requires { (1 ≤ base) × (base ≤ 16) }
+fn numeral(word: &[u8], base: u32) -> Result<usize, NoNumber>
+    requires { (2 ≤ base) × (base ≤ 16) }
     ensures { result ≡ numeral_of base word.now }
 {
-    if word.len() == 0 {
-        return Number::NotANumber;
+    if word.is_empty() {
+        return Err(NoNumber::NotANumber);
     }
     let mut value = 0;
-    let mut i = 0;
-    while i < word.len() {
-        let d = digit_value(word[i]);
-        if d >= base {
-            return Number::NotANumber;
-        }
-        let n = value * base + d;
+    for &b in word {
+        let Some(digit) = char::from(b).to_digit(base) else {
+            return Err(NoNumber::NotANumber);
+        };
         // Any digits after a number that is too large leave it too large.
-        value = if n <= LARGEST { n } else { LARGEST + 1 };
-        i += 1;
+        value = (value * base + digit).min(LARGEST + 1);
     }
-    if value <= LARGEST {
-        return Number::Plain(value);
+    if value > LARGEST {
+        return Err(NoNumber::TooLarge);
     }
-    Number::TooLarge
-}
-
-fn begins_hex(word: &[u8]) -> bool
-    ensures { result ≡ begins_hex word.now }
-{
-    2 <= word.len() && (word[0] == b'0' && word[1] == b'x')
+    Ok(value as usize)
 }
 
 // A number without a sign: hexadecimal after 0x, else decimal.
-pub fn unsigned(word: &[u8]) -> Number
-    ensures { result ≡ unsigned_of word.now }
+pub fn unsigned(word: &[u8]) -> Result<usize, NoNumber>
+    ensures { (result ≡ unsigned_of word.now) × IfOk result (λ n. n ≤ largest) }
 {
-    if begins_hex(word) {
-        return numeral(&word[2..], 16);
+    match word {
+        [b'0', b'x', digits @ ..] => numeral(digits, 16),
+        _ => numeral(word, 10),
     }
-    numeral(word, 10)
 }
 
 // What a word says as a number, with a sign or without.
-pub fn signed(word: &[u8]) -> Number
-    ensures { result ≡ signed_of word.now }
+pub fn signed(word: &[u8]) -> Result<Number, NoNumber>
+    ensures { (result ≡ signed_of word.now) × IfOk result (λ n. size_of n ≤ largest) }
 {
-    if word.len() == 0 {
-        return Number::NotANumber;
+    match word {
+        [b'-', size @ ..] => Ok(Number::Minus(unsigned(size)?)),
+        _ => Ok(Number::Plain(unsigned(word)?)),
     }
-    if word[0] != 45 {
-        return unsigned(word);
-    }
-    let size = unsigned(&word[1..]);
-    match size {
-        Number::Plain(n) => Number::Minus(n),
-        Number::TooLarge => Number::TooLarge,
-        _ => Number::NotANumber,
-    }
-}
-
-fn left_in(room: usize, size: usize) -> usize
-    ensures { result ≡ room - size }
-{
-    if size < room { room - size } else { 0 }
 }
 
 // Appends the next part of a line to the `size` bytes of it that are there: a line may lie across
-// blocks. What does not fit is passed over.
+// blocks, and the line is the caller's own room, of which nothing here grows or is kept. What does
+// not fit is passed over.
 pub fn gather(block: &[u8], from: usize, line: &mut [u8], size: usize) -> Gathered
-    ensures { (result ≡ gathered_of block.now from size (length line.old))
-        × (line.new ≡ placed (part_of block.now from size (length line.old)) size line.old) }
+    ensures { IsGathered block.now from size line.old result.next result.size result.cut line.new }
 {
-    let end = line_end(block, from);
-    let n = end - from;
-    let fits = least(n, left_in(line.len(), size));
+    let rest = &block[from.min(block.len())..];
+    let part = line_size(rest);
+    let fits = part.min(line.len().saturating_sub(size));
     if fits > 0 {
-        wire::put_part(block, from, fits, line, size);
+        wire::put(&rest[..fits], line, size);
     }
-    let ended = end < block.len();
-    let next = if ended { end + 1 } else { end };
+    let next = if part < rest.len() {
+        Some(from + part + 1)
+    } else {
+        None
+    };
     Gathered {
         next,
         size: size + fits,
-        ended,
-        cut: fits < n,
+        cut: fits < part,
     }
 }

@@ -3,158 +3,121 @@
 // places counted from 1.
 #![tactic(auto)]
 
-ghost use Rattle.std.specs.Prelude.{◌≤◌, ◌<◌};
+ghost use Rattle.std.specs.Prelude.{◌+◌, ◌≤◌, ◌<◌, length, IfSome};
 
-use line::Number;
-use terminal::{Out, say, say_form, say_shown, within};
+use line::{NoNumber, Number};
+use terminal::{Out, Shown, Write, say};
 
 // The most bytes of a line that are kept here.
 const ROOM: usize = 24;
 
 const BLOCK: usize = 8;
 
-// A line of which some bytes are there: their number, and whether some did not fit.
-#[derive(Clone, Copy)]
+// A line as it is put together: the first bytes of it that are there, and whether some did not fit.
+// An array and a size, since `line::gather` fills a slice that is lent.
+#[derive(Drop)]
 struct Held {
+    bytes: [u8; ROOM],
     size: usize,
     cut: bool,
+    ghost within: { size ≤ 24 },
+}
+
+impl Held {
+    fn new() -> Held {
+        Held {
+            bytes: [0; ROOM],
+            size: 0,
+            cut: false,
+        }
+    }
+
+    // Takes what a block has of the line from a place on; the place after its newline, if that is
+    // there.
+    fn gather(&mut self, block: &[u8], from: usize) -> Option<usize>
+        ensures { IfSome result (λ n. (from < n) × (n ≤ length block.now)) }
+    {
+        let got = line::gather(block, from, &mut self.bytes, self.size);
+        self.size = got.size;
+        self.cut |= got.cut;
+        got.next
+    }
+
+    fn say(&self, out: &mut Out) {
+        let cut = if self.cut {
+            ", the rest did not fit"
+        } else {
+            ""
+        };
+        say!(out, "  a line of {} bytes{cut}\n", self.size);
+        say_words(out, &self.bytes[..self.size]);
+    }
 }
 
 // What a word is as a number, and the end of its line.
-fn say_value(out: &Out, word: &[u8]) {
-    let value = line::signed(word);
-    let mut kind = 3;
-    let mut number = 0;
-    match value {
-        Number::Plain(n) => {
-            kind = 0;
-            number = n;
-        }
-        Number::Minus(n) => {
-            kind = 1;
-            number = n;
-        }
-        Number::TooLarge => kind = 2,
-        Number::NotANumber => kind = 3,
+fn say_value(out: &mut Out, word: &[u8]) {
+    match line::signed(word) {
+        Ok(Number::Plain(n)) => say!(out, "number {n}\n"),
+        Ok(Number::Minus(n)) => say!(out, "number -{n}\n"),
+        Err(NoNumber::TooLarge) => say!(out, "a number too large\n"),
+        Err(NoNumber::NotANumber) => say!(out, "no number\n"),
     }
-    say_form(
-        out,
-        b", [0 number %1|number -%1|a number too large|no number]\n",
-        [kind, number, 0, 0, 0, 0, 0, 0],
-    );
 }
 
-fn say_word(out: &Out, word: &[u8], place: usize) {
-    say_form(out, b"    place %0: ", [place, 0, 0, 0, 0, 0, 0, 0]);
-    say_shown(out, word);
-    say_value(out, word);
-}
-
-// There are at most as many words as bytes.
-fn say_words(out: &Out, text: &[u8]) {
+fn say_words(out: &mut Out, text: &[u8]) {
     let mut from = 0;
-    let mut turns = text.len();
-    while turns > 0 {
-        let word = line::next_word(text, from);
-        let start = word.start;
-        let end = word.end;
-        if start == end {
-            return;
-        }
-        say_word(out, &text[start..end], start + 1);
-        from = end;
-        turns -= 1;
+    while let Some(word) = line::next_word(text, from) {
+        say!(out, "    place {}: {}, ", word.start + 1, Shown(word.bytes));
+        say_value(out, word.bytes);
+        from = word.end();
     }
 }
 
-fn say_line(out: &Out, line: &[u8], held: Held) {
-    let size = within(held.size, line);
-    let cut = if held.cut { 1 } else { 0 };
-    say_form(
-        out,
-        b"  a line of %0 bytes[1 |, the rest did not fit]\n",
-        [size, cut, 0, 0, 0, 0, 0, 0],
-    );
-    say_words(out, &line[0..size]);
-}
-
-// The lines of a block; a part of one is kept for the next block. There is at most one line more
-// than there are bytes.
-fn read_block(out: &Out, block: &[u8], line: &mut [u8], held: Held) -> Held {
-    let mut size = held.size;
-    let mut cut = held.cut;
+// The lines of a block; a part of one is kept for the next block.
+fn read_block(out: &mut Out, block: &[u8], held: &mut Held) {
     let mut from = 0;
-    let mut turns = block.len();
-    while turns > 0 {
-        let got = line::gather(block, from, line, size);
-        size = got.size;
-        cut = cut || got.cut;
-        if !got.ended {
-            return Held { size, cut };
-        }
-        say_line(out, line, Held { size, cut });
-        size = 0;
-        cut = false;
-        from = got.next;
-        turns -= 1;
-    }
-    Held { size, cut }
-}
-
-fn block_end(from: usize, size: usize) -> usize
-    requires { from < size }
-    ensures { (from < result) × (result ≤ size) }
-{
-    if BLOCK < size - from {
-        from + BLOCK
-    } else {
-        size
+    while let Some(next) = held.gather(block, from) {
+        held.say(out);
+        *held = Held::new();
+        from = next;
     }
 }
 
-fn read_text(out: &Out, text: &[u8]) {
-    let mut kept = [0u8; ROOM];
-    let line: &mut [u8] = &mut kept;
-    let mut held = Held {
-        size: 0,
-        cut: false,
-    };
-    let mut from = 0;
-    while from < text.len() {
-        let end = block_end(from, text.len());
-        held = read_block(out, &text[from..end], line, held);
-        from = end;
+fn read_text(out: &mut Out, text: &[u8]) {
+    let mut held = Held::new();
+    for block in text.chunks(BLOCK) {
+        read_block(out, block, &mut held);
     }
     if held.size > 0 || held.cut {
-        say(out, b"  (no newline)\n");
-        say_line(out, line, held);
+        say!(out, "  (no newline)\n");
+        held.say(out);
     }
 }
 
-fn show(out: &Out, name: &[u8], text: &[u8]) {
-    say(out, name);
-    say_form(out, b", %0 bytes\n", [text.len(), 0, 0, 0, 0, 0, 0, 0]);
+fn show(out: &mut Out, name: &str, text: &[u8]) {
+    say!(out, "{name}, {} bytes\n", text.len());
     read_text(out, text);
 }
 
 fn main() {
-    let out = Out::new();
+    let mut out = Out::new();
     show(
-        &out,
-        b"ordinary",
+        &mut out,
+        "ordinary",
         b"137 0 200 1 244\n\ndrive 200 -500\r\n  tick\t\n",
     );
     show(
-        &out,
-        b"long",
+        &mut out,
+        "long",
         b"1 22 333 4444 55555 666666 7777777\n65535 65536 -65535\n",
     );
     show(
-        &out,
-        b"noise",
+        &mut out,
+        "noise",
         b"\x00\xff\x07 \x1b[2J\n- -- +1 1a 9999999999999999999999\x80\n",
     );
-    show(&out, b"no last newline", b"128\n131");
-    show(&out, b"newlines alone", b"\n\n");
-    show(&out, b"nothing", b"");
+    show(&mut out, "no last newline", b"128\n131");
+    show(&mut out, "newlines alone", b"\n\n");
+    show(&mut out, "nothing", b"");
+    out.flush();
 }

@@ -1,152 +1,114 @@
-// One record of a file: a setting, or a call of the board.
-use crate::input::{ROOM, STATE};
-use crate::layout::{byte_at, state_of, take, word_at};
-use board::{Answer, Ran};
-use command::Fields;
+// The calls: what is lent to them, and what they give.
+use crate::layout::fields_of;
+use crate::record::{Call, MOST};
+use board::Answer;
 use state::State;
-use terminal::within;
+use wire::Refusal;
 
-const IMAGE: u8 = 5;
-
-// What settings leave for the calls after them: the sensor image, and the length of the buffer that
-// is lent.
-#[derive(Clone, Copy)]
-pub struct Setup {
-    pub image: [u8; 40],
-    pub room: usize,
-}
-
-// Before the first of them.
-pub fn first_setup() -> Setup {
-    Setup {
-        image: [0u8; 40],
-        room: 832,
-    }
-}
-
-// What a call gives, but for the record.
+// What a call gives, but for the record: the length of its answer or why it is refused, and how
+// many bytes it read.
 #[derive(Clone, Copy)]
 pub struct Given {
-    pub number: u8,
-    pub length: usize,
+    pub sent: Result<usize, Refusal>,
     pub read: usize,
 }
 
-pub fn gave(number: u8, length: usize, read: usize) -> Given {
+impl Given {
+    // Its number in docs/RULES.md.
+    pub fn number(&self) -> u8 {
+        words::number(self.sent.err())
+    }
+
+    pub fn length(&self) -> usize {
+        self.sent.unwrap_or(0)
+    }
+}
+
+// The record after a call takes the place of the one before it.
+fn gave(state: &mut State, answer: Answer, read: usize) -> Given {
+    *state = answer.state;
     Given {
-        number,
-        length,
+        sent: answer.sent,
         read,
     }
 }
 
-// The first bytes of the buffer, as many as the room says.
-pub fn lent(buffer: &mut [u8], room: usize) -> &mut [u8] {
-    let n = within(room, buffer);
-    &mut buffer[0..n]
+// A byte for a bad record is not read.
+fn byte(state: &mut State, b: u8, image: &[u8; 40], buffer: &mut [u8]) -> Given {
+    let answer = board::byte(*state, b, image, buffer);
+    let read = usize::from(answer.sent != Err(Refusal::BadRecord));
+    gave(state, answer, read)
 }
 
-pub fn is_setting(kind: u8) -> bool {
-    kind == IMAGE || (kind == ROOM || kind == STATE)
+fn report(state: &mut State, drop: bool, cliff: bool, charger: bool) -> Given {
+    gave(state, board::safety_report(*state, drop, cliff, charger), 0)
 }
 
-// What a setting sets; another kind leaves it as it is.
-
-fn set_image(image: [u8; 40], kind: u8, body: &[u8]) -> [u8; 40] {
-    if kind != IMAGE {
-        return image;
-    }
-    let mut next = [0u8; 40];
-    take(body, 0, &mut next);
-    next
+fn tick(state: &mut State, image: &[u8; 40], buffer: &mut [u8]) -> Given {
+    gave(state, board::tick(*state, image, buffer), 0)
 }
 
-fn set_room(room: usize, kind: u8, body: &[u8]) -> usize {
-    if kind == ROOM { word_at(body, 0) } else { room }
+fn song_end(state: &mut State) -> Given {
+    gave(state, board::song_end(*state), 0)
 }
 
-pub fn set(setup: Setup, kind: u8, body: &[u8]) -> Setup {
-    let before = setup.image;
-    let image = set_image(before, kind, body);
-    Setup {
-        image,
-        room: set_room(setup.room, kind, body),
-    }
-}
-
-pub fn set_state(state: State, kind: u8, body: &[u8]) -> State {
-    if kind == STATE {
-        return state_of(body);
-    }
-    state
-}
-
-// What a call gave, with the bytes that it read.
-fn having_read(answer: Answer, read: usize) -> Ran {
-    let state = answer.state;
-    Ran {
-        number: answer.number,
-        length: answer.length,
-        state,
-        read,
-    }
-}
-
-fn byte(state: State, b: u8, image: &[u8; 40], buffer: &mut [u8]) -> Ran {
-    let answer = board::byte(state, b, image, buffer);
-    let read = if answer.number == 8 { 0 } else { 1 };
-    having_read(answer, read)
-}
-
-fn report(state: State, flags: u8) -> Ran {
-    let drop = flags % 2 == 1;
-    let cliff = flags / 2 % 2 == 1;
-    let charger = flags / 4 % 2 == 1;
-    having_read(board::safety_report(state, drop, cliff, charger), 0)
-}
-
-// A message's bytes, field by field.
-fn fields_of(body: &[u8]) -> Fields {
-    let mut payload = [0u8; 32];
-    take(body, 8, &mut payload);
-    Fields {
-        opcode: byte_at(body, 0),
-        a: byte_at(body, 1),
-        b: byte_at(body, 2),
-        c: byte_at(body, 3),
-        first: wire::read16(byte_at(body, 4), byte_at(body, 5)),
-        second: wire::read16(byte_at(body, 6), byte_at(body, 7)),
-        payload,
-    }
+fn run(state: &mut State, bytes: &[u8], image: &[u8; 40], buffer: &mut [u8]) -> Given {
+    let ran = board::run(*state, bytes, image, buffer);
+    gave(state, ran.answer, ran.read)
 }
 
 // The host-side writer reads and changes no record.
-fn write(state: State, body: &[u8], buffer: &mut [u8]) -> Ran {
-    let sent = command::write(command::message_of(fields_of(body)), buffer);
-    Ran {
-        number: sent.number,
-        length: sent.length,
-        state,
+fn write(body: &[u8; 40], buffer: &mut [u8]) -> Given {
+    Given {
+        sent: command::write(command::message_of(fields_of(body)), buffer),
         read: 0,
     }
 }
 
-// A call other than a run.
-pub fn perform(state: State, kind: u8, body: &[u8], image: &[u8; 40], buffer: &mut [u8]) -> Ran {
-    match kind {
-        1 => byte(state, byte_at(body, 0), image, buffer),
-        2 => report(state, byte_at(body, 0)),
-        3 => having_read(board::tick(state, image, buffer), 0),
-        4 => having_read(board::song_end(state), 0),
-        _ => write(state, body, buffer),
-    }
+// What is lent to a call: the sensor image, and the buffer, as many of its bytes as the room says.
+#[derive(Clone, Copy)]
+pub struct Setup {
+    pub image: [u8; 40],
+    pub room: usize,
+    buffer: [u8; MOST],
 }
 
-// An answer's bytes are set to 0 again, so that every call gets the same buffer.
-pub fn clear(buffer: &mut [u8], size: usize) {
-    let mut i = 0;
-    while i < size && i < buffer.len() {
-        buffer[i] = 0;
-        i += 1;
+impl Setup {
+    // Before the first setting.
+    pub fn new() -> Setup {
+        Setup {
+            image: [0u8; 40],
+            room: 832,
+            buffer: [0u8; MOST],
+        }
+    }
+
+    pub fn perform(&mut self, state: &mut State, call: Call<'_>) -> Given {
+        let image = &self.image;
+        let space = &mut self.buffer[..];
+        let buffer = &mut space[..self.room.min(MOST)];
+        match call {
+            Call::Byte(b) => byte(state, b, image, buffer),
+            Call::Report {
+                drop,
+                cliff,
+                charger,
+            } => report(state, drop, cliff, charger),
+            Call::Tick => tick(state, image, buffer),
+            Call::SongEnd => song_end(state),
+            Call::Run(bytes) => run(state, bytes, image, buffer),
+            Call::Message(body) => write(body, buffer),
+        }
+    }
+
+    // The bytes that a call answered.
+    pub fn answer(&self, given: Given) -> &[u8] {
+        &self.buffer[..given.length().min(MOST)]
+    }
+
+    // They are set to 0 again, so that every call gets the same buffer.
+    pub fn clear(&mut self, given: Given) {
+        let buffer = &mut self.buffer[..];
+        buffer[..given.length().min(MOST)].fill(0);
     }
 }

@@ -1,187 +1,159 @@
-// A state record in bytes, as docs/CALLS.md lays it out, both ways.
+// A state record in bytes, as docs/CALLS.md lays it out, both ways; and a message's fields.
 ghost use Rattle.std.specs.Prelude.{◌<◌};
 
-use crate::tally::{Sink, put};
+use command::Fields;
 use frame::Partial;
 use state::{Kept, Motors, Song, Songs, State, Stream};
-use terminal::{Out, bits, plus, wide};
-
-// The byte at a place, and 0 past the end.
-pub fn byte_at(bytes: &[u8], i: usize) -> u8 {
-    if i < bytes.len() { bytes[i] } else { 0 }
-}
-
-pub fn word_at(bytes: &[u8], i: usize) -> usize
-    ensures { result < 65536 }
-{
-    wide(byte_at(bytes, i)) * 256 + wide(byte_at(bytes, plus(i, 1)))
-}
-
-fn signed_at(bytes: &[u8], i: usize) -> i16 {
-    wire::read16(byte_at(bytes, i), byte_at(bytes, plus(i, 1)))
-}
-
-// Bytes from a place on, as many as there is room for.
-pub fn take(bytes: &[u8], from: usize, out: &mut [u8]) {
-    let mut i = 0;
-    while i < out.len() {
-        out[i] = byte_at(bytes, plus(from, i));
-        i += 1;
-    }
-}
-
-pub fn put_byte(out: &mut [u8], at: usize, b: u8) {
-    if at < out.len() {
-        out[at] = b;
-    }
-}
 
 // ---- from bytes
 
-fn motors_at(bytes: &[u8]) -> Motors {
+// N bytes from a place on, 0 past the end.
+fn array_at<const N: usize>(bytes: &[u8], from: usize) -> [u8; N] {
+    let mut part = [0u8; N];
+    for (to, &b) in part.iter_mut().zip(bytes.iter().skip(from)) {
+        *to = b;
+    }
+    part
+}
+
+fn signed_at(bytes: &[u8], from: usize) -> i16 {
+    i16::from_be_bytes(array_at(bytes, from))
+}
+
+fn word_at(bytes: &[u8], from: usize) -> usize
+    ensures { result < 65536 }
+{
+    usize::from(u16::from_be_bytes(array_at(bytes, from)))
+}
+
+fn motors_at(bytes: &[u8; 602]) -> Motors {
     Motors {
-        order: byte_at(bytes, 1),
+        order: bytes[1],
         first: signed_at(bytes, 2),
         second: signed_at(bytes, 4),
-        duties: [byte_at(bytes, 6), byte_at(bytes, 7), byte_at(bytes, 8)],
+        duties: array_at(bytes, 6),
     }
 }
 
-fn kept_at(bytes: &[u8]) -> Kept {
+fn kept_at(bytes: &[u8; 602]) -> Kept {
     Kept {
-        baud: byte_at(bytes, 9),
-        leds: [byte_at(bytes, 10), byte_at(bytes, 11), byte_at(bytes, 12)],
-        outputs: byte_at(bytes, 13),
-        ir: byte_at(bytes, 14),
+        baud: bytes[9],
+        leds: array_at(bytes, 10),
+        outputs: bytes[13],
+        ir: bytes[14],
     }
 }
 
 fn song_at(bytes: &[u8], from: usize) -> Song {
-    let mut notes = [0u8; 32];
-    take(bytes, plus(from, 1), &mut notes);
+    let [len]: [u8; 1] = array_at(bytes, from);
     Song {
-        len: byte_at(bytes, from),
-        notes,
+        len,
+        notes: array_at(bytes, from.wrapping_add(1)),
     }
 }
 
-fn songs_at(bytes: &[u8]) -> Songs {
+fn songs_at(bytes: &[u8; 602]) -> Songs {
     let mut table = [song_at(bytes, 15); 16];
-    let mut i = 0;
-    while i < 16 {
-        table[i] = song_at(bytes, 15 + 33 * i);
-        i += 1;
+    for (i, song) in table.iter_mut().enumerate() {
+        *song = song_at(bytes, 15 + 33 * i);
     }
     Songs {
         table,
-        selected: byte_at(bytes, 543),
-        playing: byte_at(bytes, 544),
+        selected: bytes[543],
+        playing: bytes[544],
     }
 }
 
-fn stream_at(bytes: &[u8]) -> Stream {
-    let mut ids = [0u8; 16];
-    take(bytes, 545, &mut ids);
+fn stream_at(bytes: &[u8; 602]) -> Stream {
     Stream {
-        ids,
-        count: byte_at(bytes, 561),
-        on: byte_at(bytes, 562),
+        ids: array_at(bytes, 545),
+        count: bytes[561],
+        on: bytes[562],
     }
 }
 
-fn partial_at(bytes: &[u8]) -> Partial {
-    let mut held = [0u8; 35];
-    take(bytes, 563, &mut held);
+fn partial_at(bytes: &[u8; 602]) -> Partial {
     Partial {
-        bytes: held,
+        bytes: array_at(bytes, 563),
         count: word_at(bytes, 598),
         remaining: word_at(bytes, 600),
     }
 }
 
-pub fn state_of(bytes: &[u8]) -> State {
-    let motors = motors_at(bytes);
-    let kept = kept_at(bytes);
-    let songs = songs_at(bytes);
-    let stream = stream_at(bytes);
-    let partial = partial_at(bytes);
+pub fn state_of(bytes: &[u8; 602]) -> State {
     State {
-        mode: byte_at(bytes, 0),
-        motors,
-        kept,
-        songs,
-        stream,
-        partial,
+        mode: bytes[0],
+        motors: motors_at(bytes),
+        kept: kept_at(bytes),
+        songs: songs_at(bytes),
+        stream: stream_at(bytes),
+        partial: partial_at(bytes),
+    }
+}
+
+pub fn fields_of(body: &[u8; 40]) -> Fields {
+    Fields {
+        opcode: body[0],
+        a: body[1],
+        b: body[2],
+        c: body[3],
+        first: signed_at(body, 4),
+        second: signed_at(body, 6),
+        payload: array_at(body, 8),
     }
 }
 
 // ---- to bytes
 
-fn put_one(out: &Out, sink: Sink, b: u8) -> Sink {
-    put(out, sink, &[b])
-}
+// Where the bytes of a record go, one after the other.
+pub trait Sink {
+    fn put(&mut self, bytes: &[u8]);
 
-fn put_word(out: &Out, sink: Sink, n: usize) -> Sink {
-    put(out, sink, &[(n / 256 % 256) as u8, (n % 256) as u8])
-}
-
-fn put_motors(out: &Out, sink: Sink, motors: Motors) -> Sink {
-    let duties = motors.duties;
-    let order = put_one(out, sink, motors.order);
-    let first = put_word(out, order, bits(motors.first));
-    let second = put_word(out, first, bits(motors.second));
-    put(out, second, &duties)
-}
-
-fn put_kept(out: &Out, sink: Sink, kept: Kept) -> Sink {
-    let leds = kept.leds;
-    let lit = put(out, put_one(out, sink, kept.baud), &leds);
-    put_one(out, put_one(out, lit, kept.outputs), kept.ir)
-}
-
-fn put_song(out: &Out, sink: Sink, song: Song) -> Sink {
-    let notes = song.notes;
-    put(out, put_one(out, sink, song.len), &notes)
-}
-
-fn put_songs(out: &Out, sink: Sink, songs: Songs) -> Sink {
-    let table = songs.table;
-    let mut now = sink;
-    let mut i = 0;
-    while i < 16 {
-        let song = table[i];
-        now = put_song(out, now, song);
-        i += 1;
+    // The low two bytes of a number, the high one first.
+    fn put_word(&mut self, n: usize) {
+        let [.., high, low] = n.to_be_bytes();
+        self.put(&[high, low]);
     }
-    put_one(out, put_one(out, now, songs.selected), songs.playing)
 }
 
-fn put_stream(out: &Out, sink: Sink, stream: Stream) -> Sink {
-    let ids = stream.ids;
-    put_one(
-        out,
-        put_one(out, put(out, sink, &ids), stream.count),
-        stream.on,
-    )
+fn put_motors<S: Sink>(sink: &mut S, motors: &Motors) {
+    sink.put(&[motors.order]);
+    sink.put(&motors.first.to_be_bytes());
+    sink.put(&motors.second.to_be_bytes());
+    sink.put(&motors.duties);
 }
 
-fn put_partial(out: &Out, sink: Sink, partial: Partial) -> Sink {
-    let bytes = partial.bytes;
-    put_word(
-        out,
-        put_word(out, put(out, sink, &bytes), partial.count),
-        partial.remaining,
-    )
+fn put_kept<S: Sink>(sink: &mut S, kept: &Kept) {
+    sink.put(&[kept.baud]);
+    sink.put(&kept.leds);
+    sink.put(&[kept.outputs, kept.ir]);
+}
+
+fn put_songs<S: Sink>(sink: &mut S, songs: &Songs) {
+    for song in &songs.table {
+        sink.put(&[song.len]);
+        sink.put(&song.notes);
+    }
+    sink.put(&[songs.selected, songs.playing]);
+}
+
+fn put_stream<S: Sink>(sink: &mut S, stream: &Stream) {
+    sink.put(&stream.ids);
+    sink.put(&[stream.count, stream.on]);
+}
+
+fn put_partial<S: Sink>(sink: &mut S, partial: &Partial) {
+    sink.put(&partial.bytes);
+    sink.put_word(partial.count);
+    sink.put_word(partial.remaining);
 }
 
 // The 602 bytes of a record.
-pub fn put_state(out: &Out, sink: Sink, state: State) -> Sink {
-    let motors = state.motors;
-    let kept = state.kept;
-    let songs = state.songs;
-    let stream = state.stream;
-    let partial = state.partial;
-    let motors_put = put_motors(out, put_one(out, sink, state.mode), motors);
-    let songs_put = put_songs(out, put_kept(out, motors_put, kept), songs);
-    put_partial(out, put_stream(out, songs_put, stream), partial)
+pub fn put_state<S: Sink>(sink: &mut S, state: &State) {
+    sink.put(&[state.mode]);
+    put_motors(sink, &state.motors);
+    put_kept(sink, &state.kept);
+    put_songs(sink, &state.songs);
+    put_stream(sink, &state.stream);
+    put_partial(sink, &state.partial);
 }

@@ -13,7 +13,7 @@ use Rattle.wire.proofs.ListsLaws.{among_le}
 use Rattle.state.specs.Accepted.{accepted_of}
 use Rattle.state.specs.declared.State.{State}
 use Rattle.board.specs.Calls.{Call, byte, run, report, tick, song_end, Performed, perform, after, bytes_of}
-use Rattle.board.specs.Demand1.{numbers_of, outcome}
+use Rattle.board.specs.Demand1.{numbers_of}
 use Rattle.board.proofs.Demand1Proved.{demand_1}
 use Rattle.recording.specs.Recordings.{Entry, serial, safety, ticked, song_ended, sensed, legal_entry, Found, entry, ends, parse}
 use Rattle.recording.specs.Playback.{buffer832, call_of, calls_of, first_number, stage_after, done_by, replay_from}

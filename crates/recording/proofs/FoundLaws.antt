@@ -7,7 +7,7 @@ use Prim.Native.Nat.{ℕ, suc, ◌+◌, ◌-◌, ◌≤◌, ◌<◌}
 use native.Mathlib.Omega.{arith}
 use lib.Dec.{T, leb, ltb, eqb}
 use lib.ListN.{length, get_or, take, drop, length-append, length-drop, take-append-drop, drop_of_length-le}
-use lib.Seq.{drop-drop, take_at, length-take-le, get_or-take, get_or-drop}
+use lib.Seq.{take_at, length-take-le}
 use mir.Facts.{and_yes, yes_and, yes_eqb}
 use borrow.Author.Tests.{le-ltb, lt-ltb, ltb-true, ltb-false, eqb-true, ne_eqb}
 use Rattle.wire.specs.Lists.{is_byte, all_bytes}
@@ -15,8 +15,6 @@ use Rattle.wire.proofs.BoolLaws.{to_T, is_true, cond-true, cond-false, cond_is}
 use Rattle.wire.proofs.ListsLaws.{all_front, drop_next}
 use Rattle.recording.specs.Recordings.{Entry, serial, safety, ticked, song_ended, sensed, printed, most_flags, legal_entry, Found, entry, ends, Kind, serial_kind, safety_kind, tick_kind, song_end_kind, image_kind, found_as, found}
 use Rattle.recording.specs.Playback.{seen, size_by}
-use Rattle.recording.specs.declared.Seen.{Seen}
-use Rattle.recording.specs.declared.Seen.TheVariants.{Serial, Report, Tick, SongEnd, Image, Ends}
 
 pub not_both : {A : Type 0} (e : Entry) (why : ℕ) → ends why ≡ entry e → A
 not_both e why q = let z : ◌≡◌ {A = ℕ} 0 1 = cc in absurd (omega arith)
@@ -227,49 +225,13 @@ module _ (s : List ℕ) (at : ℕ) (h : at < length s) where
       let e = left_over in
       at_kind r right k ∙ cond-false (ltb (length rest) r.body) _ _ (le-ltb (length rest) r.body (omega arith))
 
-  pub first_of : get_or (take 1 rest) 0 0 ≡ get_or s (at + 1) 0
-  first_of =
-      let e : at + 1 + 0 ≡ at + 1 = omega arith in
-      get_or-take 1 rest 0 0 (omega arith) ∙ get_or-drop (at + 1) s 0 0 ∙ ap (λ (n : ℕ). get_or s n 0) e
-
-  pub at_flags : get_or s at 0 ≡ 2 → 1 ≤ length s - at - 1 → found (drop at s) ≡ cond (leb (get_or s (at + 1) 0) most_flags) (entry (safety (get_or s (at + 1) 0))) (ends 2)
-  at_flags k n = at_says safety_kind safety_right k n ∙ ap (λ (f : ℕ). cond (leb f most_flags) (entry (safety f)) (ends 2)) first_of
-
   pub at_unknown : (get_or s at 0 ≡ 1 → ⊥) → (get_or s at 0 ≡ 2 → ⊥) → (get_or s at 0 ≡ 3 → ⊥) → (get_or s at 0 ≡ 4 → ⊥) → (get_or s at 0 ≡ 5 → ⊥) → found (drop at s) ≡ ends 1
   unfolding found
   at_unknown a b d e f =
       let k = get_or s at 0 in
       ap found (drop_next s at h) ∙ simp (ne_eqb k 1 a, ne_eqb k 2 b, ne_eqb k 3 d, ne_eqb k 4 e, ne_eqb k 5 f)
 
--- ---- what the code is told
-
-abbrev image_in : Found → List ℕ
-image_in (ends why) = []
-image_in (entry (serial b)) = []
-image_in (entry (safety flags)) = []
-image_in (entry ticked) = []
-image_in (entry song_ended) = []
-image_in (entry (sensed image)) = image
-
-abbrev pub told : Seen → List ℕ → Found
-told (Ends why) image = ends why
-told (Serial b) image = entry (serial b)
-told (Report flags) image = entry (safety flags)
-told Tick image = entry ticked
-told SongEnd image = entry song_ended
-told Image image = entry (sensed image)
-
-told_seen : (x : Found) → x ≡ told (seen x) (image_in x)
-told_seen (ends why) = refl
-told_seen (entry (serial b)) = refl
-told_seen (entry (safety flags)) = refl
-told_seen (entry ticked) = refl
-told_seen (entry song_ended) = refl
-told_seen (entry (sensed image)) = refl
-
--- all but an image's bytes are told; of any other the list plays no part
-pub as_told : (x : Found) (w : Seen) → w ≡ seen x → x ≡ told w (image_in x)
-as_told x w e = told_seen x ∙ ap (λ (v : Seen). told v (image_in x)) (sym e)
+-- ---- an entry that stands at a place
 
 -- there is an entry, and its bytes are there
 pub record Entered (s : List ℕ) (at : ℕ) : Type 0 where
@@ -291,23 +253,3 @@ entered s at e q =
       size = (stands (drop at s) e q).size ∙ ap (λ (x : Found). size_by (seen x)) (sym q);
       inside = entry_inside s at e q;
     }
-
--- the recording does not end here
-pub entered_by : (s : List ℕ) (at : ℕ) {w : Seen} → w ≡ seen (found (drop at s)) → ((why : ℕ) → w ≡ Ends why → ⊥) → Entered s at
-entered_by s at tells f = go (found (drop at s)) refl
-  where
-    go : (x : Found) → found (drop at s) ≡ x → Entered s at
-    go (ends why) q = absurd (f why (tells ∙ ap seen q))
-    go (entry e) q = entered s at e q
-
--- an image's bytes are the 40 after its kind
-pub image_told_lem : (s : List ℕ) (at : ℕ) → Image ≡ seen (found (drop at s))
-    → (at + 1 + 40 ≤ length s) × (found (drop at s) ≡ entry (sensed (take 40 (drop (at + 1) s))))
-image_told_lem s at w =
-    let image = image_in (found (drop at s)) in
-    let q : found (drop at s) ≡ entry (sensed image) = as_told (found (drop at s)) Image w in
-    let t = stands (drop at s) (sensed image) q in
-    let h = entry_inside s at (sensed image) q in
-    let n : length image ≡ 40 = omega (arith, t.size) in
-    let e : drop (at + 1) s ≡ image ++ t.rest = sym (drop-drop 1 at s) ∙ ap (drop 1) t.is in
-    (omega arith, q ∙ ap (λ (l : List ℕ). entry (sensed l)) (sym (take_at image t.rest 40 n) ∙ ap (take 40) (sym e)))

@@ -5,20 +5,20 @@ use mathlib.Core.List.{List, [], ◌∷◌}
 use Prim.Native.Nat.{ℕ, suc, ◌+◌}
 use native.Mathlib.Nat.{add-zero, zero-add}
 use native.Mathlib.Omega.{arith}
-use lib.ListN.{length, take, drop}
+use lib.ListN.{length, drop}
 use lib.Seq.{drop-drop, drop-append_seam}
 use Rattle.state.specs.declared.State.{State}
-use Rattle.board.specs.Outcome.{Outcome, answered}
+use Rattle.std.specs.Prelude.{Result, Ok, Err}
+use Rattle.std.specs.Result.{result_err}
+use Rattle.wire.specs.Replies.{told}
+use Rattle.wire.specs.declared.Refusal.{Refusal}
+use Rattle.board.specs.Outcome.{Outcome, Told, told_answer, answered}
 use Rattle.board.specs.Calls.{byte_of, report_of, tick_of, song_end_of}
 use Rattle.board.specs.declared.Answer.{Answer}
-use Rattle.recording.specs.Recordings.{Entry, serial, safety, ticked, song_ended, printed, entry, ends, found, Parsed, more, parse}
-use Rattle.recording.specs.Playback.{flag, stage_after, replay_from, joined, continued, standing, done_by, seen}
+use Rattle.recording.specs.Recordings.{Entry, serial, safety, ticked, song_ended, sensed, printed, entry, ends, found, Parsed, more, parse}
+use Rattle.recording.specs.Playback.{flag, stage_after, replay_from, joined, continued, standing, ToldDone, done_by, ToldPlay, refused_number}
 use Rattle.recording.specs.declared.Stage.{Stage}
-use Rattle.recording.specs.declared.Done.{Done}
-use Rattle.recording.specs.declared.Played.{Played}
-use Rattle.recording.specs.declared.Seen.{Seen}
-use Rattle.recording.specs.declared.Seen.TheVariants.{Serial, Report, Tick, SongEnd, Image, Ends}
-use Rattle.recording.proofs.FoundLaws.{stands, Entered, told, as_told, image_told_lem}
+use Rattle.recording.proofs.FoundLaws.{stands, Entered}
 use Rattle.recording.proofs.ParseLaws.{parse_ends, parse_next}
 use Rattle.recording.proofs.ReplayProved.{stage_append}
 
@@ -27,59 +27,54 @@ use Rattle.recording.proofs.ReplayProved.{stage_append}
 abbrev pub with_state : Stage → State → Stage
 with_state g s = record { state = s; image = g.image }
 
-abbrev pub done_as : Stage → ℕ → State → Done
+abbrev done_as : Stage → ℕ → State → ToldDone
 done_as g n s = record { number = n; stage = with_state g s }
 
-abbrev pub done_from : Stage → Answer → Done
-done_from g a = done_as g a.number a.state
+abbrev done_from : Stage → Told → ToldDone
+done_from g t = done_as g t.number t.state
 
-abbrev pub done_of : Stage → Outcome → Done
+abbrev done_of : Stage → Outcome → ToldDone
 done_of g o = done_as g o.number o.state
 
--- what stands there was told, and the call that it stands for gave this back
-module _ (g : Stage) (s : List ℕ) (at : ℕ) {w : Seen} (tells : w ≡ seen (found (drop at s))) where
-  done_as_lem : (v : Seen) (e : Entry) {d : Done} → ((image : List ℕ) → told v image ≡ entry e) → w ≡ v → done_by g (entry e) ≡ d
-      → d ≡ done_by g (found (drop at s))
-  done_as_lem v e is same gave = sym (ap (done_by g) (as_told (found (drop at s)) v (sym same ∙ tells) ∙ is _) ∙ gave)
+err_number : (r : Result ℕ Refusal) → refused_number (result_err r) ≡ (told r).number
+err_number (Ok n) = refl
+err_number (Err r) = refl
 
-  pub by_serial : (b : ℕ) (buffer : List ℕ) {a : Answer} → length buffer ≡ 832 → w ≡ Serial b
-      → a ≡ answered (byte_of g.state b g.image (length buffer)) → done_from g a ≡ done_by g (found (drop at s))
-  unfolding done_by stage_after answered
-  by_serial b buffer n same e =
-      ap (done_from g) e
-      ∙ done_as_lem (Serial b) (serial b) (λ image. refl) same (ap (λ (k : ℕ). done_of g (byte_of g.state b g.image k)) (sym n))
+-- the call that an entry stands for gave this back
+module _ (g : Stage) (a : Answer) where
+  abbrev pub gave : ToldDone
+  gave = done_as g (refused_number (result_err a.sent)) a.state
 
-  pub by_report : (f : ℕ) {a : Answer} → w ≡ Report f → a ≡ answered (report_of g.state (flag f 1) (flag f 2) (flag f 4))
-      → done_from g a ≡ done_by g (found (drop at s))
-  unfolding done_by stage_after answered
-  by_report f same e = ap (done_from g) e ∙ done_as_lem (Report f) (safety f) (λ image. refl) same refl
+  gave_is : (o : Outcome) → told_answer a ≡ answered o → gave ≡ done_of g o
+  unfolding answered
+  gave_is o e = ap (λ (n : ℕ). done_as g n a.state) (err_number a.sent) ∙ ap (done_from g) e
 
-  pub by_tick : (buffer : List ℕ) {a : Answer} → length buffer ≡ 832 → w ≡ Tick → a ≡ answered (tick_of g.state g.image (length buffer))
-      → done_from g a ≡ done_by g (found (drop at s))
-  unfolding done_by stage_after answered
-  by_tick buffer n same e =
-      ap (done_from g) e
-      ∙ done_as_lem Tick ticked (λ image. refl) same (ap (λ (k : ℕ). done_of g (tick_of g.state g.image k)) (sym n))
-
-  pub by_song_end : {a : Answer} → w ≡ SongEnd → a ≡ answered (song_end_of g.state) → done_from g a ≡ done_by g (found (drop at s))
-  unfolding done_by stage_after answered
-  by_song_end same e = ap (done_from g) e ∙ done_as_lem SongEnd song_ended (λ image. refl) same refl
-
-  pub by_image : {image : List ℕ} → w ≡ Image → image ≡ take 40 (drop (at + 1) s)
-      → record { number = 0; stage = record { state = g.state; image = image } } ≡ done_by g (found (drop at s))
+  pub by_serial : (b : ℕ) (buffer : List ℕ) → length buffer ≡ 832 → told_answer a ≡ answered (byte_of g.state b g.image (length buffer))
+      → gave ≡ done_by g (entry (serial b))
   unfolding done_by stage_after
-  by_image same e =
-      ap (λ (l : List ℕ). record { number = 0; stage = record { state = g.state; image = l } }) e
-      ∙ sym (ap (done_by g) (image_told_lem s at (sym same ∙ tells)).1)
+  by_serial b buffer n e = gave_is _ e ∙ ap (λ (k : ℕ). done_of g (byte_of g.state b g.image k)) n
 
-  pub by_end : (why : ℕ) → w ≡ Ends why → record { number = 0; stage = g } ≡ done_by g (found (drop at s))
-  unfolding done_by
-  by_end why same = sym (ap (done_by g) (as_told (found (drop at s)) (Ends why) (sym same ∙ tells)))
+  pub by_report : (f : ℕ) → told_answer a ≡ answered (report_of g.state (flag f 1) (flag f 2) (flag f 4)) → gave ≡ done_by g (entry (safety f))
+  unfolding done_by stage_after
+  by_report f e = gave_is _ e
+
+  pub by_tick : (buffer : List ℕ) → length buffer ≡ 832 → told_answer a ≡ answered (tick_of g.state g.image (length buffer)) → gave ≡ done_by g (entry ticked)
+  unfolding done_by stage_after
+  by_tick buffer n e = gave_is _ e ∙ ap (λ (k : ℕ). done_of g (tick_of g.state g.image k)) n
+
+  pub by_song_end : told_answer a ≡ answered (song_end_of g.state) → gave ≡ done_by g (entry song_ended)
+  unfolding done_by stage_after
+  by_song_end e = gave_is _ e
+
+-- an image is kept
+pub by_image : (g : Stage) (image : List ℕ) → record { number = 0; stage = record { state = g.state; image = image } } ≡ done_by g (entry (sensed image))
+unfolding done_by stage_after
+by_image g image = refl
 
 -- ---- on from a place
 
 module _ (g : Stage) (count at : ℕ) (l : List ℕ) where
-  abbrev played_as : Parsed → Played
+  abbrev played_as : Parsed → ToldPlay
   played_as p = joined (standing g count at) (record { stage = stage_after g p.entries; count = length p.entries; at = p.at; why = p.why })
 
   as_played : continued (standing g count at) l ≡ played_as (parse (drop at l))
@@ -108,12 +103,12 @@ module _ (g : Stage) (count at : ℕ) (l : List ℕ) where
       ∙ ap₂ (λ (i j : ℕ). record { stage = stage_after (stage_after g (e ∷ [])) p.entries; count = i; at = j; why = p.why }) c k
 
   -- one turn of the loop
-  pub going_turn : (x : Entered l at) {d : Done} {n : ℕ} → d ≡ done_by g (found (drop at l)) → n ≡ length (printed x.e)
+  pub going_turn : (x : Entered l at) {d : ToldDone} {n : ℕ} → d ≡ done_by g (found (drop at l)) → n ≡ length (printed x.e)
       → continued (standing g count at) l ≡ continued (standing d.stage (count + 1) (at + n)) l
   unfolding done_by
   going_turn x p q =
       going_on x.e x.is
-      ∙ ap₂ (λ (d : Done) (m : ℕ). continued (standing d.stage (count + 1) (at + m)) l) (sym (p ∙ ap (done_by g) x.is)) (sym q)
+      ∙ ap₂ (λ (d : ToldDone) (m : ℕ). continued (standing d.stage (count + 1) (at + m)) l) (sym (p ∙ ap (done_by g) x.is)) (sym q)
 
 -- from a recording's start
 pub from_start : (g : Stage) (l : List ℕ) → continued (standing g 0 0) l ≡ replay_from g l

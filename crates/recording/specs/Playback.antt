@@ -1,9 +1,11 @@
 -- Playing a recording back, and recording calls made live (docs/RULES.md E7 to E9, E15, E16,
 -- E19).
 -- Assumes nothing.
-use Rattle.std.specs.Prelude.{◌≡◌, Bool, true, cond, ◌&&◌, ℕ, ◌+◌, ◌/◌, ◌%◌, T, eqb, length, drop, replicate}
+use Rattle.std.specs.Prelude.{◌≡◌, Bool, true, cond, ◌&&◌, ℕ, ◌+◌, ◌/◌, ◌%◌, T, eqb, length, drop, replicate, Option, Some, None, Result, Ok, Err}
 use mathlib.Core.List.{List, [], ◌∷◌, ◌++◌, map, flatten}
 use Rattle.wire.specs.Lists.{all, is_byte, byte_array, all_bytes, same_list}
+use Rattle.wire.specs.Replies.{number_of}
+use Rattle.wire.specs.declared.Refusal.{Refusal}
 use Rattle.state.specs.State.{power_on}
 use Rattle.state.specs.declared.State.{State}
 use Rattle.board.specs.Calls.{Call, byte, run, report, tick, song_end, perform, after, bytes_of, bytes_in}
@@ -13,8 +15,10 @@ use Rattle.recording.specs.declared.Done.{Done}
 use Rattle.recording.specs.declared.Stepped.{Stepped}
 use Rattle.recording.specs.declared.Played.{Played}
 use Rattle.recording.specs.declared.Passed.{Passed}
-use Rattle.recording.specs.declared.Seen.{Seen}
-use Rattle.recording.specs.declared.Seen.TheVariants.{Serial, Report, Tick, SongEnd, Image, Ends}
+use Rattle.recording.specs.declared.Record.{Record}
+use Rattle.recording.specs.declared.Record.TheVariants as kept
+use Rattle.recording.specs.declared.End.{End}
+use Rattle.recording.specs.declared.End.TheVariants as end
 
 -- ---- playing back
 
@@ -63,30 +67,37 @@ first_number s (c ∷ cs) = (perform s c).outcome.number
 unfoldable pub stage_after : Stage → List Entry → Stage
 stage_after g es = record { state = after g.state (calls_of buffer832 g.image es); image = last_image g.image es }
 
+-- how far a playback came: the records performed, and where and why it ended
+pub record ToldPlay : Type 0 where
+  pub stage : Stage
+  pub count : ℕ
+  pub at : ℕ
+  pub why : ℕ
+
 -- rule E9: images are counted too, and so is a call that is refused
-unfoldable pub replay_from : Stage → List ℕ → Played
+unfoldable pub replay_from : Stage → List ℕ → ToldPlay
 replay_from g l = let p = parse l in record { stage = stage_after g p.entries; count = length p.entries; at = p.at; why = p.why }
 
 abbrev pub at_power_on : Stage
 at_power_on = record { state = power_on; image = no_image }
 
-unfoldable pub replay_of : List ℕ → Played
+unfoldable pub replay_of : List ℕ → ToldPlay
 replay_of l = replay_from at_power_on l
 
 -- one playback and, where it stopped, another
-abbrev pub joined : Played → Played → Played
+abbrev pub joined : ToldPlay → ToldPlay → ToldPlay
 joined x y = record { stage = y.stage; count = x.count + y.count; at = x.at + y.at; why = y.why }
 
 -- a playback that goes on in the recording l from where it stands
-unfoldable pub continued : Played → List ℕ → Played
+unfoldable pub continued : ToldPlay → List ℕ → ToldPlay
 continued x l = joined x (replay_from x.stage (drop x.at l))
 
 -- so many records performed, and this place reached
-abbrev pub standing : Stage → ℕ → ℕ → Played
+abbrev pub standing : Stage → ℕ → ℕ → ToldPlay
 standing g count at = record { stage = g; count = count; at = at; why = whole }
 
 -- in blocks: `rest` is what is unread of those before
-abbrev pub play_blocks : Stage → List ℕ → List (List ℕ) → Played
+abbrev pub play_blocks : Stage → List ℕ → List (List ℕ) → ToldPlay
 play_blocks g rest [] = replay_from g rest
 play_blocks g rest (b ∷ bs) =
     let x = replay_from g (rest ++ b) in
@@ -94,7 +105,15 @@ play_blocks g rest (b ∷ bs) =
 
 -- ---- one record, as the code tells it
 
--- what stands at a place; an image's bytes are left where they are
+-- what stands at a place, or why there is nothing; an image's bytes are left where they are
+pub data Seen : Type 0 where
+  Serial : ℕ → Seen
+  Report : ℕ → Seen
+  Tick : Seen
+  SongEnd : Seen
+  Image : Seen
+  Ends : ℕ → Seen
+
 abbrev pub seen : Found → Seen
 seen (ends why) = Ends why
 seen (entry (serial b)) = Serial b
@@ -112,20 +131,88 @@ size_by Tick = 1
 size_by SongEnd = 1
 size_by Image = 41
 
+-- what a record gave: the number of its call (0 for an image, which is none), and what it left
+pub record ToldDone : Type 0 where
+  pub number : ℕ
+  pub stage : Stage
+
 -- a record performed: the number that came back, and what it leaves
-unfoldable pub done_by : Stage → Found → Done
+unfoldable pub done_by : Stage → Found → ToldDone
 done_by g (ends why) = record { number = 0; stage = g }
 done_by g (entry e) =
     record { number = first_number g.state (call_of buffer832 g.image e); stage = stage_after g (e ∷ []) }
 
+-- a record performed, with what stood there and how many bytes it has
+pub record ToldStep : Type 0 where
+  pub what : Seen
+  pub size : ℕ
+  pub number : ℕ
+  pub stage : Stage
+
 -- what stands there, performed
-unfoldable pub step_of : Stage → Found → Stepped
+unfoldable pub step_of : Stage → Found → ToldStep
 step_of g x =
     record { what = seen x; size = size_by (seen x); number = (done_by g x).number; stage = (done_by g x).stage }
 
+-- what a reader passes over, and the place after it
+pub record ToldPass : Type 0 where
+  pub what : Seen
+  pub at : ℕ
+
 -- what a reader passes over at a place, and the place after it
-unfoldable pub passed_at : List ℕ → ℕ → Passed
+unfoldable pub passed_at : List ℕ → ℕ → ToldPass
 passed_at l at = let w = seen (found (drop at l)) in record { what = w; at = at + size_by w }
+
+-- ---- what the code's results tell
+
+abbrev pub why_of : End → ℕ
+why_of end.Whole = 0
+why_of end.UnknownKind = 1
+why_of end.FlagsAbove = 2
+why_of end.CutShort = 3
+
+abbrev pub entry_of : Record → Entry
+entry_of (kept.Serial b) = serial b
+entry_of (kept.Report flags) = safety flags
+entry_of kept.Tick = ticked
+entry_of kept.SongEnd = song_ended
+entry_of (kept.Image image) = sensed image
+
+-- a record, or why there is none
+abbrev pub looked : Result Record End → Found
+looked (Ok r) = entry (entry_of r)
+looked (Err e) = ends (why_of e)
+
+-- the number of a call that was refused, and else 0
+abbrev pub refused_number : Option Refusal → ℕ
+refused_number None = 0
+refused_number (Some r) = number_of r
+
+abbrev pub told_done : Done → ToldDone
+told_done d = record { number = refused_number d.refused; stage = d.stage }
+
+-- where there is no record the stage stays as it was
+abbrev pub told_step : Stage → Result Stepped End → ToldStep
+told_step g (Ok s) =
+    let w = seen (entry (entry_of s.record)) in
+    record { what = w; size = size_by w; number = (told_done s.done).number; stage = s.done.stage }
+told_step g (Err e) = record { what = Ends (why_of e); size = 0; number = 0; stage = g }
+
+abbrev pub stepped_record : Result Stepped End → Found
+stepped_record (Ok s) = entry (entry_of s.record)
+stepped_record (Err e) = ends (why_of e)
+
+-- and so does the place
+abbrev pub told_pass : ℕ → Result Passed End → ToldPass
+told_pass at (Ok p) = record { what = seen (entry (entry_of p.record)); at = p.at }
+told_pass at (Err e) = record { what = Ends (why_of e); at = at }
+
+abbrev pub passed_record : Result Passed End → Found
+passed_record (Ok p) = entry (entry_of p.record)
+passed_record (Err e) = ends (why_of e)
+
+abbrev pub told_play : Played → ToldPlay
+told_play p = record { stage = p.stage; count = p.count; at = p.at; why = why_of p.why }
 
 -- ---- recording live calls
 

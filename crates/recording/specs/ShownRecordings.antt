@@ -7,9 +7,7 @@ use Rattle.wire.specs.Lists.{all, span, same_list}
 use Rattle.state.specs.State.{power_on}
 use Rattle.board.specs.Calls.{Call, byte, run, report, tick, song_end}
 use Rattle.recording.specs.Recordings.{Entry, serial, safety, ticked, sensed, print, legal_entry, found}
-use Rattle.recording.specs.Playback.{call_of, at_power_on, replay_of, step_of, recorded}
-use Rattle.recording.specs.declared.Seen.{Seen}
-use Rattle.recording.specs.declared.Seen.TheVariants.{Serial, Report, Tick, SongEnd, Image, Ends}
+use Rattle.recording.specs.Playback.{Seen, Serial, Report, Tick, SongEnd, Image, Ends, call_of, at_power_on, replay_of, step_of, recorded}
 
 pub record Case : Type 0 where
   pub bytes : List ℕ

@@ -15,247 +15,205 @@
 
 mod writers;
 
-ghost use Rattle.std.specs.Prelude.{◌≡◌, ◌+◌, ◌≤◌, length, take, drop};
+ghost use Rattle.std.specs.Prelude.{◌≡◌, ◌<◌, ◌≤◌, Ok, Err, length, take, drop};
 ghost use Rattle.recording.specs.Recordings.{found};
-ghost use Rattle.recording.specs.Playback.{seen, size_by, done_by, step_of, passed_at, continued, standing, at_power_on, replay_of};
+ghost use Rattle.recording.specs.Playback.{seen, looked, size_by, told_done, done_by, told_step, stepped_record, step_of, told_pass, passed_record, passed_at, told_play, continued, standing, at_power_on, replay_of};
 
 use state::State;
+use wire::Refusal;
 pub use writers::{record_byte, record_image, record_report, record_song_end, record_tick};
 
-// Why a recording ends.
-pub const WHOLE: u8 = 0;
+// The kinds, as a record's first byte says them.
+const SERIAL: u8 = 1;
 
-pub const UNKNOWN_KIND: u8 = 1;
+const REPORT: u8 = 2;
 
-pub const FLAGS_ABOVE: u8 = 2;
+const TICK: u8 = 3;
 
-pub const CUT_SHORT: u8 = 3;
+const SONG_END: u8 = 4;
+
+const IMAGE: u8 = 5;
 
 // A report's flags are bits 0 to 2.
 pub const MOST_FLAGS: u8 = 7;
 
-// What stands at a place: a record, or why there is none. An image's 40 bytes are those after its
-// kind.
-#[derive(Clone, Copy)]
-pub enum Seen {
+// Why a recording ends.
+#[derive(Clone, Copy, Debug, PartialEq, Eq)]
+pub enum End {
+    Whole,
+    UnknownKind,
+    FlagsAbove,
+    CutShort,
+}
+
+// A record.
+#[derive(Clone, Copy, Debug, PartialEq, Eq)]
+pub enum Record {
     Serial(u8),
     Report(u8),
     Tick,
     SongEnd,
-    Image,
-    Ends(u8),
+    Image([u8; 40]),
 }
 
 // What a playback has at hand: the state record, and the last image.
-#[derive(Clone, Copy)]
+#[derive(Clone, Copy, Debug, PartialEq, Eq)]
 pub struct Stage {
     pub state: State,
     pub image: [u8; 40],
 }
 
-// What a record gave: the number of its call (0 for an image, which is none), and what it left.
-#[derive(Clone, Copy)]
+// What a record gave: why its call was refused, if it was, and what it left. An image is no call.
+#[derive(Clone, Copy, Debug, PartialEq, Eq)]
 pub struct Done {
-    pub number: u8,
+    pub refused: Option<Refusal>,
     pub stage: Stage,
 }
 
-// A record performed, with what stood there and how many bytes it has.
-#[derive(Clone, Copy)]
+// A record performed.
+#[derive(Clone, Copy, Debug, PartialEq, Eq)]
 pub struct Stepped {
-    pub what: Seen,
-    pub size: usize,
-    pub number: u8,
-    pub stage: Stage,
+    pub record: Record,
+    pub done: Done,
 }
 
 // How far a playback came: the records performed, and where and why it ended.
-#[derive(Clone, Copy)]
+#[derive(Clone, Copy, Debug, PartialEq, Eq)]
 pub struct Played {
     pub stage: Stage,
     pub count: usize,
     pub at: usize,
-    pub why: u8,
+    pub why: End,
 }
 
-pub fn look(s: &[u8], at: usize) -> Seen
-    ensures { result ≡ seen (found (drop at s.now)) }
+// A record passed over, and the place after it.
+#[derive(Clone, Copy, Debug, PartialEq, Eq)]
+pub struct Passed {
+    pub record: Record,
+    pub at: usize,
+}
+
+impl Record {
+    // How many bytes it has.
+    pub fn size(self) -> usize
+        ensures { result ≡ size_by (seen (looked (Ok self))) }
+    {
+        match self {
+            Record::Serial(_) | Record::Report(_) => 2,
+            Record::Tick | Record::SongEnd => 1,
+            Record::Image(_) => 41,
+        }
+    }
+}
+
+// A body of N bytes, at the start of what is left.
+fn body<const N: usize>(rest: &[u8]) -> Result<[u8; N], End>
+    ensures cut { length rest.now < N → result ≡ Err End.CutShort }
+    ensures whole { N ≤ length rest.now → result ≡ Ok (take N rest.now) }
+{
+    if rest.len() < N {
+        return Err(End::CutShort);
+    }
+    let mut bytes = [0; N];
+    bytes.copy_from_slice(&rest[..N]);
+    Ok(bytes)
+}
+
+// The record at a place.
+pub fn look(s: &[u8], at: usize) -> Result<Record, End>
+    ensures { looked result ≡ found (drop at s.now) }
 {
     if s.len() <= at {
-        return Seen::Ends(WHOLE);
+        return Err(End::Whole);
     }
-    let kind = s[at];
-    let left = s.len() - at - 1;
-    if kind == 1 {
-        if left < 1 {
-            return Seen::Ends(CUT_SHORT);
+    let rest = &s[at + 1..];
+    match s[at] {
+        SERIAL => {
+            let [b] = body::<1>(rest)?;
+            Ok(Record::Serial(b))
         }
-        return Seen::Serial(s[at + 1]);
-    }
-    if kind == 2 {
-        if left < 1 {
-            return Seen::Ends(CUT_SHORT);
+        REPORT => {
+            let [flags] = body::<1>(rest)?;
+            if flags > MOST_FLAGS {
+                return Err(End::FlagsAbove);
+            }
+            Ok(Record::Report(flags))
         }
-        let flags = s[at + 1];
-        if flags <= MOST_FLAGS {
-            return Seen::Report(flags);
-        }
-        return Seen::Ends(FLAGS_ABOVE);
+        TICK => Ok(Record::Tick),
+        SONG_END => Ok(Record::SongEnd),
+        IMAGE => Ok(Record::Image(body::<40>(rest)?)),
+        _ => Err(End::UnknownKind),
     }
-    if kind == 3 {
-        return Seen::Tick;
-    }
-    if kind == 4 {
-        return Seen::SongEnd;
-    }
-    if kind == 5 {
-        if left < 40 {
-            return Seen::Ends(CUT_SHORT);
-        }
-        return Seen::Image;
-    }
-    Seen::Ends(UNKNOWN_KIND)
-}
-
-// How many bytes a record has.
-fn size(what: Seen) -> usize
-    ensures { result ≡ size_by what }
-{
-    match what {
-        Seen::Serial(_) => 2,
-        Seen::Report(_) => 2,
-        Seen::Tick => 1,
-        Seen::SongEnd => 1,
-        Seen::Image => 41,
-        Seen::Ends(_) => 0,
-    }
-}
-
-fn image_at(s: &[u8], at: usize) -> [u8; 40]
-    requires { at + 40 ≤ length s.now }
-    ensures { result ≡ take 40 (drop at s.now) }
-{
-    let mut image = [0u8; 40];
-    wire::put_part(s, at, 40, &mut image, 0);
-    image
 }
 
 // A record performed: one call of the board, or an image kept for the next.
-fn one(s: &[u8], at: usize, stage: Stage, what: Seen, buffer: &mut [u8]) -> Done
-    requires buffer_len { length buffer.old ≡ 832 }
-    requires what_value { what ≡ seen (found (drop at s.now)) }
-    ensures { result ≡ done_by stage (found (drop at s.now)) }
+fn perform(what: Record, stage: Stage, buffer: &mut [u8]) -> Done
+    requires { length buffer.old ≡ 832 }
+    ensures { told_done result ≡ done_by stage (looked (Ok what)) }
 {
-    let state = stage.state;
-    let image = stage.image;
-    match what {
-        Seen::Serial(b) => {
-            let a = board::byte(state, b, &image, buffer);
-            let next = a.state;
-            let stage = Stage { state: next, image };
-            Done {
-                number: a.number,
-                stage,
-            }
+    let Stage { state, image } = stage;
+    let answer = match what {
+        Record::Serial(b) => board::byte(state, b, &image, buffer),
+        Record::Report(flags) => board::safety_report(
+            state,
+            flags / 1 % 2 == 1,
+            flags / 2 % 2 == 1,
+            flags / 4 % 2 == 1,
+        ),
+        Record::Tick => board::tick(state, &image, buffer),
+        Record::SongEnd => board::song_end(state),
+        Record::Image(image) => {
+            return Done {
+                refused: None,
+                stage: Stage { state, image },
+            };
         }
-        Seen::Report(flags) => {
-            let a = board::safety_report(
-                state,
-                flags / 1 % 2 == 1,
-                flags / 2 % 2 == 1,
-                flags / 4 % 2 == 1,
-            );
-            let next = a.state;
-            let stage = Stage { state: next, image };
-            Done {
-                number: a.number,
-                stage,
-            }
-        }
-        Seen::Tick => {
-            let a = board::tick(state, &image, buffer);
-            let next = a.state;
-            let stage = Stage { state: next, image };
-            Done {
-                number: a.number,
-                stage,
-            }
-        }
-        Seen::SongEnd => {
-            let a = board::song_end(state);
-            let next = a.state;
-            let stage = Stage { state: next, image };
-            Done {
-                number: a.number,
-                stage,
-            }
-        }
-        Seen::Image => {
-            let image = image_at(s, at + 1);
-            let stage = Stage { state, image };
-            Done { number: 0, stage }
-        }
-        Seen::Ends(_) => Done { number: 0, stage },
+    };
+    Done {
+        refused: answer.sent.err(),
+        stage: Stage {
+            state: answer.state,
+            image,
+        },
     }
 }
 
 // The record at a place, performed; where there is none, nothing is.
-pub fn step(s: &[u8], at: usize, stage: Stage) -> Stepped
-    ensures { result ≡ step_of stage (found (drop at s.now)) }
+pub fn step(s: &[u8], at: usize, stage: Stage) -> Result<Stepped, End>
+    ensures done { told_step stage result ≡ step_of stage (found (drop at s.now)) }
+    ensures what { stepped_record result ≡ found (drop at s.now) }
 {
+    let record = look(s, at)?;
     let mut buffer = [0u8; 832];
-    let what = look(s, at);
-    let done = one(s, at, stage, what, &mut buffer);
-    let stage = done.stage;
-    Stepped {
-        what,
-        size: size(what),
-        number: done.number,
-        stage,
-    }
+    let done = perform(record, stage, &mut buffer);
+    Ok(Stepped { record, done })
 }
 
-// On from where a playback stands, to the recording's end or the first record that cannot be
-// performed.
-fn go_on(s: &[u8], start: Played, buffer: &mut [u8]) -> Played
-    requires buffer_len { length buffer.old ≡ 832 }
-    requires count_le_at { start.count ≤ start.at }
-    ensures { result ≡ continued start s.now }
+// From any stage, at a place of the recording, to the recording's end or the first record that
+// cannot be performed; from a place past its end nothing is performed, and the place stays.
+pub fn play_from(s: &[u8], at: usize, stage: Stage) -> Played
+    ensures { told_play result ≡ continued (standing stage 0 at) s.now }
 {
-    let mut stage = start.stage;
-    let mut count = start.count;
-    let mut at = start.at;
+    let mut buffer = [0u8; 832];
+    let mut now = stage;
+    let mut count = 0;
+    let mut here = at;
+    // A turn goes on by the size of its record, so that no `for` fits.
     let why = loop {
-        let what = look(s, at);
-        if let Seen::Ends(why) = what {
-            break why;
-        }
-        let done = one(s, at, stage, what, buffer);
-        stage = done.stage;
+        let record = match look(s, here) {
+            Ok(record) => record,
+            Err(why) => break why,
+        };
+        now = perform(record, now, &mut buffer).stage;
         count += 1;
-        at += size(what);
+        here += record.size();
     };
     Played {
-        stage,
+        stage: now,
         count,
-        at,
+        at: here,
         why,
     }
-}
-
-// From any stage, at a place of the recording; from one past its end nothing is performed, and the
-// place stays.
-pub fn play_from(s: &[u8], at: usize, stage: Stage) -> Played
-    ensures { result ≡ continued (standing stage 0 at) s.now }
-{
-    let mut buffer = [0u8; 832];
-    let start = Played {
-        stage,
-        count: 0,
-        at,
-        why: WHOLE,
-    };
-    go_on(s, start, &mut buffer)
 }
 
 // The board at power-on, and an image of zeros.
@@ -270,78 +228,72 @@ pub fn at_power_on() -> Stage
 
 // A whole recording, from power-on.
 pub fn replay(s: &[u8]) -> Played
-    ensures { result ≡ replay_of s.now }
+    ensures { told_play result ≡ replay_of s.now }
 {
     play_from(s, 0, at_power_on())
 }
 
-// A recording that is lent, and a place in it. The functions over it are thin: each takes it apart,
-// and the work stands above.
-#[derive(Clone, Copy)]
+// The record at a place, and the place after it; where the recording ends the place stays.
+pub fn pass(s: &[u8], at: usize) -> Result<Passed, End>
+    ensures place { told_pass at result ≡ passed_at s.now at }
+    ensures what { passed_record result ≡ found (drop at s.now) }
+{
+    let record = look(s, at)?;
+    Ok(Passed {
+        record,
+        at: at + record.size(),
+    })
+}
+
+// A recording that is lent, and a place in it.
+#[derive(Clone, Copy, Debug, PartialEq, Eq)]
 pub struct Reader<'a> {
     pub recording: &'a [u8],
     pub at: usize,
 }
 
-// What a reader passes over: what stood there, and the place after it.
-#[derive(Clone, Copy)]
-pub struct Passed {
-    pub what: Seen,
-    pub at: usize,
-}
-
-// What stands at a place, and the place after it; the same place where the recording ends.
-pub fn pass(s: &[u8], at: usize) -> Passed
-    ensures { result ≡ passed_at s.now at }
-{
-    let what = look(s, at);
-    if let Seen::Ends(_) = what {
-        return Passed { what, at };
+impl<'a> Reader<'a> {
+    // At the recording's start.
+    pub fn start(recording: &'a [u8]) -> Reader<'a>
+        ensures { (result.recording ≡ recording.entry) × (result.at ≡ 0) }
+    {
+        Reader { recording, at: 0 }
     }
-    Passed {
-        what,
-        at: at + size(what),
+
+    // What stands at the reader's place.
+    pub fn next(self) -> Result<Record, End>
+        ensures { looked result ≡ found (drop self.entry.at self.entry.recording.now) }
+    {
+        look(self.recording, self.at)
     }
-}
 
-// At the recording's start.
-pub fn start<'a>(recording: &'a [u8]) -> Reader<'a>
-    ensures { (result.recording ≡ recording.entry) × (result.at ≡ 0) }
-{
-    Reader { recording, at: 0 }
-}
-
-// What stands at the reader's place.
-pub fn next<'a>(r: Reader<'a>) -> Seen
-    ensures { result ≡ seen (found (drop r.entry.at r.entry.recording.now)) }
-{
-    look(r.recording, r.at)
-}
-
-// The same recording, at another place.
-pub fn moved<'a>(r: Reader<'a>, at: usize) -> Reader<'a>
-    ensures { (result.recording ≡ r.entry.recording) × (result.at ≡ at) }
-{
-    Reader {
-        recording: r.recording,
-        at,
+    // The same recording, at another place.
+    pub fn moved(self, at: usize) -> Reader<'a>
+        ensures { (result.recording ≡ self.entry.recording) × (result.at ≡ at) }
+    {
+        Reader {
+            recording: self.recording,
+            at,
+        }
     }
-}
 
-// The reader is lent: what stands at its place, and the place moves on behind it.
-pub fn take<'s, 'a>(r: &'s mut Reader<'a>) -> Seen
-    ensures { (result ≡ (passed_at r.old.recording.now r.old.at).what)
-        × (r.new.recording ≡ r.old.recording)
-        × (r.new.at ≡ (passed_at r.old.recording.now r.old.at).at) }
-{
-    let p = pass(r.recording, r.at);
-    r.at = p.at;
-    p.what
-}
+    // The reader is lent: what stands at its place, and the place moves on behind it.
+    pub fn take(&mut self) -> Result<Record, End>
+        ensures { (looked result ≡ found (drop self.old.at self.old.recording.now))
+            × (seen (looked result) ≡ (passed_at self.old.recording.now self.old.at).what)
+            × (self.new.recording ≡ self.old.recording)
+            × (self.new.at ≡ (passed_at self.old.recording.now self.old.at).at) }
+    {
+        let passed = pass(self.recording, self.at)?;
+        self.at = passed.at;
+        Ok(passed.record)
+    }
 
-// On from the reader's place, to the recording's end or the first record that cannot be performed.
-pub fn play<'a>(r: Reader<'a>, stage: Stage) -> Played
-    ensures { result ≡ continued (standing stage 0 r.entry.at) r.entry.recording.now }
-{
-    play_from(r.recording, r.at, stage)
+    // On from the reader's place, to the recording's end or the first record that cannot be
+    // performed.
+    pub fn play(self, stage: Stage) -> Played
+        ensures { told_play result ≡ continued (standing stage 0 self.entry.at) self.entry.recording.now }
+    {
+        play_from(self.recording, self.at, stage)
+    }
 }

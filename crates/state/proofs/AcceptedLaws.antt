@@ -1,26 +1,27 @@
 -- Laws of the record's test: each item as the code tests it, and in plain numbers.
 -- Assumes nothing.
 use mathlib.Core.Path.{◌≡◌, refl, sym, ap, ◌∙◌}
-use mathlib.Core.Bool.{Bool, true, false, not, cond, ◌&&◌, ◌||◌}
+use mathlib.Core.Bool.{Bool, true, false, not, cond, ◌&&◌, ◌||◌, and_assoc}
 use mathlib.Core.List.{List, [], ◌∷◌}
 use mathlib.Core.Logic.{⊎_elim}
 use Prim.Native.Nat.{ℕ, zero, suc, ◌*◌, ◌≤◌, ◌<◌}
 use native.Mathlib.Omega.{arith}
 use lib.Dec.{T, leb, eqb}
 use lib.IntN.{ℤ, pos, negsuc}
-use lib.ListN.{length, get_or, take, replicate}
-use mir.Syntax.{w16}
-use mir.Val.{SFits}
-use borrow.Author.Tests.{leb-true, le-leb, lt-leb, eq-eqb, ne_eqb, eqb-true, not-true}
-use Rattle.wire.specs.Lists.{all, all_from, among, all_bytes, byte_array}
+use lib.ListN.{length, get_or, take, drop, replicate, get_or-eq_default}
+use mir.Syntax.{w8, w16}
+use mir.Val.{Fits, SFits}
+use borrow.Author.Tests.{lt-ltb, leb-true, le-leb, lt-leb, eq-eqb, ne_eqb, eqb-true, not-true}
+use Rattle.std.specs.List.{list_all}
+use Rattle.wire.specs.Lists.{all, all_from, among, all_bytes, all_zero, byte_array}
 use Rattle.wire.proofs.BoolLaws.{is_true, to_T, both, not_zero, pos_eqb, le_or_lt}
-use Rattle.wire.proofs.ListsLaws.{from, among_le, byte_at, all-at, all_of, zero_later, zeros_later}
+use Rattle.wire.proofs.ListsLaws.{array_true, from, among_le, byte_at, all-at, all_of, zero_later, zeros_later, get_d_any}
 use Rattle.packet.specs.Answers.{streamable_of}
-use Rattle.command.specs.CommandTable.{is_in, row_of, legal_of}
+use Rattle.command.specs.CommandTable.{is_in, is_legal, speed, radius, row_of, legal_of}
 use Rattle.command.specs.Commands.{is_speed, is_radius}
-use Rattle.command.proofs.CommandTableLaws.{alike, from_off, byte_legal, drive_legal, direct_legal, duties_legal_lem, song_is, stream_legal_lem}
+use Rattle.command.proofs.CommandTableLaws.{drive_tested as both_tested, direct_tested as both_tested_2, alike, from_off, byte_legal, drive_legal, direct_legal, duties_legal_lem, song_is, stream_legal_lem}
 use Rattle.state.specs.State.{motors_off, unset, song_at}
-use Rattle.state.specs.Accepted.{mode_named, order_named, off_unless_driven, wheels_legal, duties_legal, outputs_legal, baud_legal, selected_legal, stream_legal, length_legal, is_set, playing_set, notes_zero, ids_zero, is_word, motors_typed, motors_ok}
+use Rattle.state.specs.Accepted.{mode_named, order_named, off_unless_driven, wheels_legal, duties_legal, outputs_legal, baud_legal, selected_legal, stream_legal, length_legal, is_set, playing_set, notes_zero, ids_zero, is_word, motors_typed, kept_typed, song_typed, stream_typed, motors_ok, kept_ok, song_ok, songs_ok, stream_ok}
 use Rattle.state.specs.Record.{Array}
 use Rattle.state.specs.declared.Motors.{Motors}
 use Rattle.state.specs.declared.Kept.{Kept}
@@ -46,6 +47,29 @@ pub array_is : (n : ℕ) (l : List ℕ) → byte_array n l ≡ true → Array n 
 array_is n l e =
     let a = both (eqb (length l) n) (all_bytes l) e in
     (eqb-true (length l) n a.0, byte_at l (to_T (all_bytes l) a.1))
+
+-- ---- what the type says of a value of the code
+
+bytes_fit : (l : List ℕ) → ((i : ℕ) → Fits w8 (get_or l i 0)) → (i : ℕ) → get_or l i 0 < 256
+bytes_fit l f i = let h = f i in omega arith
+
+pub motors_are : (m : Motors) → length m.duties ≡ 3 → ((i : ℕ) → Fits w8 (get_or m.duties i 0)) → SFits w16 m.first → SFits w16 m.second
+    → motors_typed m ≡ true
+unfolding motors_typed
+motors_are m len f first second =
+    simp (word_true m.first first, word_true m.second second, array_true 3 m.duties len (bytes_fit m.duties f))
+
+pub kept_are : (k : Kept) → length k.leds ≡ 3 → ((i : ℕ) → Fits w8 (get_or k.leds i 0)) → Fits w8 k.ir → kept_typed k ≡ true
+unfolding kept_typed
+kept_are k len f ir = simp (array_true 3 k.leds len (bytes_fit k.leds f), lt-ltb k.ir 256 (omega arith))
+
+pub song_are : (x : Song) → length x.notes ≡ 32 → ((i : ℕ) → Fits w8 (get_or x.notes i 0)) → song_typed x ≡ true
+unfolding song_typed
+song_are x len f = array_true 32 x.notes len (bytes_fit x.notes f)
+
+pub stream_are : (x : Stream) → length x.ids ≡ 16 → ((i : ℕ) → Fits w8 (get_or x.ids i 0)) → stream_typed x ≡ true
+unfolding stream_typed
+stream_are x len f = array_true 16 x.ids len (bytes_fit x.ids f)
 
 -- ---- a mode
 
@@ -115,6 +139,19 @@ module _ (m : Motors) where
       go false true e h = g (eqb-true m.order 2 h)
       go false false e h = refl
 
+  -- the kind and its numbers, as the code tests them
+  pub none_tested : m.order ≡ 0 → (order_named m && wheels_legal m) ≡ true
+  unfolding order_named wheels_legal
+  none_tested o = simp o
+
+  pub drive_tested : m.order ≡ 1 → (order_named m && wheels_legal m) ≡ (is_legal speed m.first && is_legal radius m.second)
+  unfolding order_named wheels_legal
+  drive_tested o = simp (o, both_tested)
+
+  pub direct_tested : m.order ≡ 2 → (order_named m && wheels_legal m) ≡ (is_legal speed m.first && is_legal speed m.second)
+  unfolding order_named wheels_legal
+  direct_tested o = simp (o, both_tested_2)
+
   -- of a kind that is not named the numbers may be anything
   pub unnamed_legal : order_named m ≡ false → wheels_legal m ≡ true
   unnamed_legal u = wheels_of (λ (o : m.order ≡ 1). named (omega arith)) (λ (o : m.order ≡ 2). named (omega arith))
@@ -142,6 +179,27 @@ module _ (m : Motors) where
       duties_tested
       ∙ simp (le-leb (get_or m.duties 2 0) 128 (f 2 (omega arith)), le-leb (get_or m.duties 1 0) 128 (f 1 (omega arith)), le-leb (get_or m.duties 0 0) 128 (f 0 (omega arith)))
 
+-- three places, each tested
+three : (f : ℕ → Bool) (l : List ℕ) → length l ≡ 3 → list_all f l ≡ (f (get_or l 2 0) && (f (get_or l 1 0) && f (get_or l 0 0)))
+three f [] e = absurd (omega arith)
+three f (a ∷ []) e = absurd (omega arith)
+three f (a ∷ (b ∷ [])) e = absurd (omega arith)
+three f (a ∷ (b ∷ (d ∷ []))) e = turned (f a) (f b) (f d)
+  where
+    turned : (x y z : Bool) → (x && (y && (z && true))) ≡ (z && (y && x))
+    turned true true true = refl
+    turned true true false = refl
+    turned true false true = refl
+    turned true false false = refl
+    turned false true true = refl
+    turned false true false = refl
+    turned false false true = refl
+    turned false false false = refl
+three f (a ∷ (b ∷ (d ∷ (x ∷ l)))) e = absurd (omega arith)
+
+pub duties_each : (m : Motors) → length m.duties ≡ 3 → list_all (λ d. leb d 128) m.duties ≡ duties_legal m
+duties_each m e = three (λ d. leb d 128) m.duties e ∙ sym (duties_tested m)
+
 -- ---- the motors, as the code tests them
 
 -- the kind is looked at with its numbers, after the mode
@@ -167,6 +225,10 @@ pub baud_tested : (k : Kept) → baud_legal k ≡ leb k.baud 11
 unfolding row_of legal_of baud_legal
 baud_tested k = sym (byte_legal 11 k.baud)
 
+pub kept_tested : (k : Kept) → kept_typed k ≡ true → kept_ok k ≡ (leb k.outputs 7 && leb k.baud 11)
+unfolding kept_ok
+kept_tested k t = simp (t, outputs_tested k, baud_tested k)
+
 pub selected_tested : (x : Songs) → selected_legal x ≡ leb x.selected 15
 unfolding row_of legal_of selected_legal
 selected_tested x = sym (byte_legal 15 x.selected)
@@ -176,6 +238,11 @@ selected_tested x = sym (byte_legal 15 x.selected)
 pub list_tested : (x : Stream) → stream_legal x ≡ (leb x.count 16 && streamable_of (take x.count x.ids))
 unfolding stream_legal
 list_tested x = stream_legal_lem x.count x.ids
+
+pub stream_tested : (x : Stream) → stream_typed x ≡ true
+    → stream_ok x ≡ (leb x.on 1 && (leb x.count 16 && (streamable_of (take x.count x.ids) && all_zero (drop x.count x.ids))))
+unfolding stream_ok ids_zero
+stream_tested x t = simp (t, list_tested x, and_assoc)
 
 -- ---- songs
 
@@ -188,6 +255,10 @@ pub length_legal_lem : (song : Song) → length_legal song ≡ leb song.len 16
 unfolding length_legal
 length_legal_lem song = ap (λ (b : Bool). eqb song.len 0 || b) (song_is 0 song.len (replicate 32 0) tt) ∙ zero_or song.len
 
+pub song_tested : (x : Song) → song_typed x ≡ true → song_ok x ≡ (leb x.len 16 && all_zero (drop (2 * x.len) x.notes))
+unfolding song_ok notes_zero
+song_tested x t = simp (t, length_legal_lem x)
+
 module _ (x : Songs) where
   pub lengths_are : all length_legal x.table ≡ true → (n : ℕ) → n < length x.table → (song_at x n).len ≤ 16
   lengths_are e n h =
@@ -198,6 +269,19 @@ module _ (x : Songs) where
   lengths_of f =
       is_true (all length_legal x.table)
       (all_of length_legal unset x.table (λ n h. to_T (length_legal (song_at x n)) (length_legal_lem (song_at x n) ∙ le-leb (song_at x n).len 16 (f n h))))
+
+  -- as the code reads it: past the table's end no song is set
+  pub playing_at : (d : Song) → x.playing ≡ 1 → x.selected < length x.table → playing_set x ≡ is_set (get_or x.table x.selected d)
+  unfolding playing_set
+  playing_at d p h = simp (eq-eqb x.playing 1 p, get_d_any x.table x.selected unset d h)
+
+  pub playing_past : x.playing ≡ 1 → length x.table ≤ x.selected → playing_set x ≡ false
+  unfolding playing_set
+  playing_past p h = simp (eq-eqb x.playing 1 p, get_or-eq_default x.table unset h)
+
+  pub silent : (x.playing ≡ 1 → ⊥) → playing_set x ≡ true
+  unfolding playing_set
+  silent f = simp (ne_eqb x.playing 1 f)
 
   pub playing_is : playing_set x ≡ true → x.playing ≡ 1 → 0 < (song_at x x.selected).len
   unfolding playing_set
@@ -232,3 +316,16 @@ module _ (x : Stream) where
   pub ids_of : ((i : ℕ) → x.count ≤ i → get_or x.ids i 0 ≡ 0) → ids_zero x ≡ true
   unfolding ids_zero
   ids_of f = is_true (ids_zero x) (zeros_later x.ids x.count f)
+
+-- ---- the songs, as the code tests them
+
+pub songs_tested : (x : Songs) → length x.table ≡ 16
+    → songs_ok x ≡ (leb x.selected 15 && (leb x.playing 1 && (playing_set x && all song_ok x.table)))
+unfolding songs_ok
+songs_tested x e = simp (eq-eqb (length x.table) 16 e, selected_tested x)
+
+-- ---- what the check of a function is given at once
+
+pub ruleset wheels = (none_tested, drive_tested, direct_tested)
+
+pub ruleset playing = (playing_at, playing_past, silent)

@@ -1,21 +1,21 @@
 -- Laws of the test of two records: it passes where they are equal, and nowhere else.
 -- Assumes nothing.
 use mathlib.Core.Path.{◌≡◌, refl, sym, ap, ap₂, subst, ◌∙◌}
-use mathlib.Core.Bool.{true, ◌&&◌}
+use mathlib.Core.Bool.{true}
 use mathlib.Core.List.{List, [], ◌∷◌}
-use Prim.Native.Nat.{ℕ, ◌+◌, ◌<◌}
-use native.Mathlib.Numerals.{add-one}
+use Prim.Native.Nat.{ℕ}
 use lib.Dec.{T, eqb, eqb→eq}
 use lib.IntN.{ℤ, pos, negsuc}
-use lib.ListN.{length, get_or, drop}
-use lib.Seq.{drop-cons}
 use mir.Syntax.{Width}
 use mir.Val.{SFits, to_z, of_z}
 use mir.ValLaws.{to_z-of_z}
 use mir.Facts.{and_yes, yes_eqb}
 use borrow.Author.Tests.{eq-eqb}
+use Rattle.std.specs.Bool.{one_answer}
+use Rattle.std.specs.Cmp.{signed_Decides}
+use Rattle.std.specs.Ordering.{int_eq}
 use Rattle.wire.specs.Lists.{same_list}
-use Rattle.wire.proofs.BoolLaws.{to_T, same_truth}
+use Rattle.wire.proofs.BoolLaws.{is_true, to_T, same_truth}
 use Rattle.wire.proofs.ListsLaws.{same_list_lem}
 use Rattle.frame.specs.declared.Partial.{Partial}
 use Rattle.state.specs.declared.Motors.{Motors}
@@ -142,7 +142,13 @@ equal_same a b e = subst (λ (x : State). T (same_state a x)) e (to_T (same_stat
 pub same_exactly : SameExactly
 same_exactly = record { same_equal = same_state_lem; equal_same = equal_same }
 
--- ---- for the functions that test a part
+-- ---- as the code compares them
+
+-- the library's equality of two signed numbers
+pub number_is : (a b : ℤ) → int_eq a b ≡ same_number a b
+number_is a b =
+    one_answer (int_eq a b) (same_number a b) (signed_Decides a b)
+    (λ (e : same_number a b ≡ true). same_number_lem a b (to_T (same_number a b) e), λ (e : a ≡ b). is_true (same_number a b) (equal_number a b e))
 
 -- the machine holds a number's bits
 pub by_bits : {w : Width} (a b : ℤ) → SFits w a → SFits w b → same_number a b ≡ eqb (of_z w a) (of_z w b)
@@ -150,8 +156,3 @@ by_bits {w} a b f g =
     let back : of_z w a ≡ of_z w b → a ≡ b = λ e. sym (to_z-of_z w a f) ∙ ap (to_z w) e ∙ to_z-of_z w b g in
     same_truth (same_number a b) (eqb (of_z w a) (of_z w b)) (λ t. yes_eqb (ap (of_z w) (same_number_lem a b t)))
     (λ t. equal_number a b (back (eqb→eq (of_z w a) (of_z w b) t)))
-
--- one turn of a loop over two tables
-pub table_next : (d e : Song) (l m : List Song) (i : ℕ) → i < length l → i < length m
-    → same_table (drop i l) (drop i m) ≡ (same_song (get_or l i d) (get_or m i e) && same_table (drop (i + 1) l) (drop (i + 1) m))
-table_next d e l m i h k = rw (add-one, drop-cons l i d h, drop-cons m i e k) refl

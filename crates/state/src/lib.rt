@@ -17,17 +17,16 @@
 // test of two records is equality.
 #![tactic(auto)]
 
-mod compare;
 mod items;
 mod setters;
 
 ghost use Rattle.std.specs.Prelude.{◌≡◌, ◌&&◌, ◌++◌, ◌≤◌, drop, replicate};
+ghost use Rattle.std.specs.List.{list_all};
 ghost use Rattle.wire.specs.Lists.{all_zero};
-ghost use Rattle.frame.specs.Reach.{reachable_of};
 ghost use Rattle.state.specs.State.{power_on, motors_off};
+ghost use Rattle.state.specs.Same.{same_state};
 ghost use Rattle.state.specs.Accepted.{order_named, off_unless_driven, wheels_legal, duties_legal, motors_ok, kept_ok, song_ok, songs_ok, stream_ok, accepted_of};
 
-pub use compare::same;
 use frame::Partial;
 pub use items::broken;
 pub use setters::{
@@ -39,7 +38,8 @@ pub use setters::{
 // Power-on's baud code.
 const FIRST_BAUD: u8 = 10;
 
-// The kinds of wheel order.
+// The kinds of wheel order. They are numbers and no enum, since the record crosses to C: any byte
+// can be lent there, and another than these three is a bad record.
 pub const NO_ORDER: u8 = 0;
 
 pub const DRIVE: u8 = 1;
@@ -55,7 +55,7 @@ pub const YES: u8 = 1;
 // A wheel order: its kind, and velocity and radius of a Drive, or right and left of a Direct. Of no
 // order the two numbers may be anything. Driver i's duty is duties[i].
 #[repr(C)]
-#[derive(Clone, Copy)]
+#[derive(Clone, Copy, Debug, PartialEq, Eq)]
 pub struct Motors {
     pub order: u8,
     pub first: i16,
@@ -66,7 +66,7 @@ pub struct Motors {
 // What is kept as it was sent: the code for the serial speed, the LEDs' three bytes, the digital
 // outputs, the IR byte.
 #[repr(C)]
-#[derive(Clone, Copy)]
+#[derive(Clone, Copy, Debug, PartialEq, Eq)]
 pub struct Kept {
     pub baud: u8,
     pub leds: [u8; 3],
@@ -76,14 +76,14 @@ pub struct Kept {
 
 // A song: its length in notes, 0 where it is not set, and its notes, two bytes each.
 #[repr(C)]
-#[derive(Clone, Copy)]
+#[derive(Clone, Copy, Debug, PartialEq, Eq)]
 pub struct Song {
     pub len: u8,
     pub notes: [u8; 32],
 }
 
 #[repr(C)]
-#[derive(Clone, Copy)]
+#[derive(Clone, Copy, Debug, PartialEq, Eq)]
 pub struct Songs {
     pub table: [Song; 16],
     pub selected: u8,
@@ -92,16 +92,17 @@ pub struct Songs {
 
 // The stream list: its ids, in the first places, and their number.
 #[repr(C)]
-#[derive(Clone, Copy)]
+#[derive(Clone, Copy, Debug, PartialEq, Eq)]
 pub struct Stream {
     pub ids: [u8; 16],
     pub count: u8,
     pub on: u8,
 }
 
-// It holds no enum and no bool: any bytes that are lent are a record, good or bad.
+// It holds no enum and no bool: any bytes that are lent are a record, good or bad. Its lists are
+// arrays with their counts beside them, as C has them.
 #[repr(C)]
-#[derive(Clone, Copy)]
+#[derive(Clone, Copy, Debug, PartialEq, Eq)]
 pub struct State {
     pub mode: u8,
     pub motors: Motors,
@@ -112,52 +113,59 @@ pub struct State {
 }
 
 // The record at power-on.
+#[tactic(auto, unfolding(crate::specs::State::power_on))]
 pub fn power_on() -> State
     ensures { result ≡ power_on }
 {
     let unset = Song {
         len: 0,
-        notes: [0u8; 32],
+        notes: [0; 32],
     };
-    let table = [unset; 16];
-    let partial = frame::empty();
     State {
         mode: command::OFF,
         motors: Motors {
             order: NO_ORDER,
             first: 0,
             second: 0,
-            duties: [0u8; 3],
+            duties: [0; 3],
         },
         kept: Kept {
             baud: FIRST_BAUD,
-            leds: [0u8; 3],
+            leds: [0; 3],
             outputs: 0,
             ir: 0,
         },
         songs: Songs {
-            table,
+            table: [unset; 16],
             selected: 0,
             playing: NO,
         },
         stream: Stream {
-            ids: [0u8; 16],
+            ids: [0; 16],
             count: 0,
             on: NO,
         },
-        partial,
+        partial: frame::empty(),
     }
 }
 
+// Whether two records are the same.
+pub fn same(a: State, b: State) -> bool
+    ensures { result ≡ same_state a b }
+{
+    a == b
+}
+
 // A Drive order of velocity 0 is not off.
+#[tactic(auto, unfolding(crate::specs::State::motors_off))]
 fn motors_off(motors: Motors) -> bool
     ensures { result ≡ motors_off motors }
 {
-    let duties = motors.duties;
-    motors.order == NO_ORDER && wire::clear_from(&duties, 0)
+    motors.order == NO_ORDER && wire::clear_from(&motors.duties, 0)
 }
 
 // Off and Passive ask that the motors are off.
+#[tactic(auto, using(crate::proofs::AcceptedLaws::unless_driven))]
 fn off_unless_driven(mode: u8, motors: Motors) -> bool
     ensures { result ≡ off_unless_driven mode motors }
 {
@@ -165,11 +173,11 @@ fn off_unless_driven(mode: u8, motors: Motors) -> bool
 }
 
 // The kind is one that is named, and its numbers are legal; those of no order may be anything.
+#[tactic(auto, using(crate::proofs::AcceptedLaws::wheels), unfolding(crate::specs::Accepted::order_named))]
 pub fn wheels_ok(motors: Motors) -> bool
     ensures { result ≡ (order_named motors && wheels_legal motors) }
 {
-    let order = motors.order;
-    match order {
+    match motors.order {
         NO_ORDER => true,
         DRIVE => command::is_speed(motors.first) && command::is_radius(motors.second),
         DIRECT => command::is_speed(motors.first) && command::is_speed(motors.second),
@@ -180,9 +188,7 @@ pub fn wheels_ok(motors: Motors) -> bool
 fn duties_legal(motors: Motors) -> bool
     ensures { result ≡ duties_legal motors }
 {
-    let duties = motors.duties;
-    duties[2] <= command::FULL_DUTY
-        && (duties[1] <= command::FULL_DUTY && duties[0] <= command::FULL_DUTY)
+    motors.duties.iter().all(|&duty| duty <= command::FULL_DUTY)
 }
 
 // The tests of a record, part by part. The ranges are those of the commands that set it, by the
@@ -192,7 +198,9 @@ fn motors_ok(mode: u8, motors: Motors) -> bool
     ensures { result ≡ motors_ok mode motors }
 {
     mode <= command::FULL
-        && (off_unless_driven(mode, motors) && (wheels_ok(motors) && duties_legal(motors)))
+        && off_unless_driven(mode, motors)
+        && wheels_ok(motors)
+        && duties_legal(motors)
 }
 
 // The LEDs and the IR byte may be any bytes.
@@ -202,101 +210,68 @@ fn kept_ok(kept: Kept) -> bool
     kept.outputs <= command::LAST_OUTPUTS && kept.baud <= command::LAST_BAUD
 }
 
-// 0 in 32 places and 255 in 32 more: read from place 32 - n on, it hides the first n of 32 places.
-fn mask() -> [u8; 64]
-    ensures { result ≡ replicate 32 0 ++ replicate 32 255 }
-{
-    let mut mask = [0u8; 64];
-    let mut i = 32;
-    while i < 64 {
-        mask[i] = 255;
-        i += 1;
-    }
-    mask
-}
-
 // Whether the places from `used` on are 0. All 32 are looked at, as many as the type says, which
 // the compiler does at once: the mask hides those in use.
-fn clear_past(notes: [u8; 32], used: usize, mask: &[u8; 64]) -> bool
+fn clear_past(notes: &[u8; 32], used: usize, mask: &[u8]) -> bool
     requires used_bound { used ≤ 32 }
     requires mask_value { mask.now ≡ replicate 32 0 ++ replicate 32 255 }
-    ensures { result ≡ all_zero (drop used notes) }
+    ensures { result ≡ all_zero (drop used notes.now) }
 {
     let start = 32 - used;
     let mut left = 0u8;
-    let mut i = 0;
-    while i < 32 {
-        left = left | (notes[i] & mask[start + i]);
-        i += 1;
+    for i in 0..32 {
+        left |= notes[i] & mask[start + i];
     }
     left == 0
 }
 
-fn song_ok(song: Song, mask: &[u8; 64]) -> bool
+fn song_ok(song: Song, mask: &[u8]) -> bool
     requires { mask.now ≡ replicate 32 0 ++ replicate 32 255 }
     ensures { result ≡ song_ok song }
 {
-    let len = song.len;
-    let notes = song.notes;
-    len <= frame::LEGAL_COUNT && clear_past(notes, 2 * (len as usize), mask)
+    song.len <= frame::LEGAL_COUNT && clear_past(&song.notes, 2 * usize::from(song.len), mask)
 }
 
-// The selected song and each of the 16 are tested in one function, since each that is handed the
-// table copies it.
-fn songs_ok(songs: Songs) -> bool
-    ensures { result ≡ songs_ok songs }
+// Each of the 16. The mask has 0 in 32 places and 255 in 32 more: read from place 32 - n on, it
+// hides the first n of 32 places.
+fn table_ok(table: &[Song; 16]) -> bool
+    ensures { result ≡ list_all song_ok table.now }
 {
-    let selected = songs.selected;
-    let table = songs.table;
-    if selected > command::LAST_SONG {
+    let halves = [[0; 32], [255; 32]];
+    let mask = halves.as_flattened();
+    table.iter().all(|&song| song_ok(song, mask))
+}
+
+// They are lent, and each other part is handed over: a copy of the table costs, and of bytes that
+// are handed over the check knows by itself that they are bytes.
+#[tactic(auto, using(crate::proofs::AcceptedLaws::songs_tested))]
+fn songs_ok(songs: &Songs) -> bool
+    ensures { result ≡ songs_ok songs.now }
+{
+    if songs.selected > command::LAST_SONG || songs.playing > YES {
         return false;
     }
-    if songs.playing > YES {
-        return false;
-    }
-    if songs.playing == YES && table[selected as usize].len == 0 {
-        return false;
-    }
-    let mask = mask();
-    let mut i = 0;
-    while i < 16 {
-        let song = table[i];
-        if !song_ok(song, &mask) {
-            return false;
-        }
-        i += 1;
-    }
-    true
+    items::playing_set(songs) && table_ok(&songs.table)
 }
 
 // The ids in use are held to rule C148, sizes included.
 fn stream_ok(stream: Stream) -> bool
     ensures { result ≡ stream_ok stream }
 {
-    let ids = stream.ids;
-    let count = stream.count;
-    let n = count as usize;
-    if stream.on > YES {
-        return false;
-    }
-    count <= frame::LEGAL_COUNT && (packet::streamable(&ids[0..n]) && wire::clear_from(&ids, n))
-}
-
-fn partial_ok(partial: Partial) -> bool
-    ensures { result ≡ reachable_of partial }
-{
-    frame::reachable(partial)
+    let n = usize::from(stream.count);
+    stream.on <= YES
+        && stream.count <= frame::LEGAL_COUNT
+        && packet::streamable(&stream.ids[..n])
+        && wire::clear_from(&stream.ids, n)
 }
 
 // Whether the board takes a record; a bad one is any other.
 pub fn accepts(state: State) -> bool
     ensures { result ≡ accepted_of state }
 {
-    let motors = state.motors;
-    let kept = state.kept;
-    let songs = state.songs;
-    let stream = state.stream;
-    let partial = state.partial;
-    motors_ok(state.mode, motors)
-        && (kept_ok(kept) && (songs_ok(songs) && (stream_ok(stream) && partial_ok(partial))))
+    motors_ok(state.mode, state.motors)
+        && kept_ok(state.kept)
+        && songs_ok(&state.songs)
+        && stream_ok(state.stream)
+        && frame::reachable(state.partial)
 }

@@ -1,121 +1,159 @@
-// Text to standard output. What writes gives back how many columns it took, so that a table can be
-// laid out.
-ghost use Rattle.std.specs.Prelude.{◌≡◌, ◌<◌, ◌≤◌, length};
+// Text to standard output.
+ghost use Rattle.std.specs.Prelude.{◌≡◌};
+ghost use Rattle.terminal.specs.Columns.{column_after, columns_after};
 
-use std::cell::Cell;
+use crate::say;
+use arrayvec::ArrayVec;
+use std::fmt;
+use std::fmt::Write;
 
 const STDOUT: i32 = 1;
 
 const STDERR: i32 = 2;
 
-// Standard output, and whether it has been told that it cannot be written.
+// What waits to be written at once.
+const ROOM: usize = 1024;
+
+// Standard output: the text that waits, the columns of its last line, and whether it has been told
+// that it cannot be written.
 #[derive(Drop)]
 pub struct Out {
-    told: Cell<bool>,
+    waiting: ArrayVec<u8, ROOM>,
+    column: usize,
+    told: bool,
 }
 
 impl Out {
-    pub fn new() -> Out {
+    pub fn new() -> Out
+        ensures { result.column ≡ 0 }
+    {
         Out {
-            told: Cell::new(false),
+            waiting: ArrayVec::new(),
+            column: 0,
+            told: false,
+        }
+    }
+
+    // How many columns the line has that is being written.
+    pub fn column(&self) -> usize
+        ensures { result ≡ self.now.column }
+    {
+        self.column
+    }
+
+    // What comes next begins a line for the person who reads: an answer was typed behind a prompt.
+    pub fn begin_line(&mut self)
+        ensures { self.new.column ≡ 0 }
+    {
+        self.column = 0;
+    }
+
+    // Text as it is.
+    pub fn say(&mut self, text: &[u8])
+        ensures { self.new.column ≡ columns_after self.old.column text.now }
+    {
+        for &b in text {
+            self.put(b);
+        }
+    }
+
+    fn put(&mut self, b: u8)
+        ensures { self.new.column ≡ column_after self.old.column b }
+    {
+        if self.waiting.is_full() {
+            self.flush();
+        }
+        let _ = self.waiting.try_push(b);
+        self.column = match b {
+            b'\n' => 0,
+            _ => self.column.wrapping_add(1),
+        };
+    }
+
+    // What waits is written. Output that cannot be written is told once, where it still may be
+    // seen.
+    pub fn flush(&mut self)
+        ensures { self.new.column ≡ self.old.column }
+    {
+        if self.waiting.is_empty() {
+            return;
+        }
+        if !io::write_all(STDOUT, self.waiting.as_slice()) && !self.told {
+            self.told = true;
+            io::write_all(STDERR, b"standard output cannot be written\n");
+        }
+        self.waiting = ArrayVec::new();
+    }
+
+    // The start of a message: where a person finds what was wrong. Places are counted from 1.
+    pub fn say_where(&mut self, line: usize, place: usize) {
+        let place = place.wrapping_add(1);
+        say!(self, "line {line}: place {place}: ");
+    }
+
+    // Spaces up to a column.
+    pub fn pad(&mut self, width: usize) {
+        for _ in self.column..width {
+            self.put(b' ');
         }
     }
 }
 
-// Text as it is. Output that cannot be written is told once, where it still may be seen.
-pub fn say(out: &Out, text: &[u8]) -> usize
-    ensures { result ≡ length text.now }
-{
-    if !io::write_all(STDOUT, text) && !out.told.replace(true) {
-        io::write_all(STDERR, b"standard output cannot be written\n");
+impl fmt::Write for Out {
+    fn write_str(&mut self, text: &str) -> fmt::Result {
+        self.say(text.as_bytes());
+        Ok(())
     }
-    text.len()
 }
 
-// Columns never come near the type's end.
-pub fn plus(a: usize, b: usize) -> usize {
-    std::num::wrapping_add_usize(a, b)
-}
-
-// A number, in decimal digits.
-pub fn say_number(out: &Out, n: usize) -> usize {
-    let mut digits = [0u8; 20];
-    let k = io::decimal(n as u64, &mut digits);
-    say(out, &digits[..k])
-}
-
-pub fn wide(b: u8) -> usize
-    ensures { (result ≡ b) × (result < 256) }
-{
-    b as usize
-}
-
-// The sixteen bits of a number with a sign, as a form takes them.
-pub fn bits(v: i16) -> usize
-    ensures { result < 65536 }
-{
-    wide(wire::high16(v)) * 256 + wide(wire::low16(v))
-}
-
-// A sixteen-bit number with its sign.
-pub fn say_signed(out: &Out, v: i16) -> usize {
-    let bits = bits(v);
-    if bits < 32768 {
-        return say_number(out, bits);
-    }
-    plus(say(out, b"-"), say_number(out, 65536 - bits))
-}
-
-// The columns of one number of a list.
-fn say_item(out: &Out, i: usize, b: u8, between: &[u8]) -> usize {
-    let gap = if i == 0 { 0 } else { say(out, between) };
-    plus(gap, say_number(out, wide(b)))
-}
-
-// Numbers, with a text between them.
-pub fn say_joined(out: &Out, bytes: &[u8], between: &[u8]) -> usize {
-    let mut used = 0;
-    let mut i = 0;
-    while i < bytes.len() {
-        used = plus(used, say_item(out, i, bytes[i], between));
-        i += 1;
-    }
-    used
-}
-
-pub fn say_bytes(out: &Out, bytes: &[u8]) -> usize {
-    say_joined(out, bytes, b" ")
-}
-
-fn say_visible(out: &Out, b: u8) {
-    if b >= 32 && b < 127 {
-        say(out, &[b]);
-    } else {
-        say(out, b".");
-    }
+// `write!` to standard output, of which no error is left to handle: what cannot be written, `Out`
+// tells.
+#[macro_export]
+macro_rules! say {
+    ($out:expr, $($text:tt)*) => {{
+        let _ = write!($out, $($text)*);
+    }};
 }
 
 // Text that a person typed: a byte that a terminal would not show is written as a dot.
-pub fn say_shown(out: &Out, text: &[u8]) {
-    let mut i = 0;
-    while i < text.len() {
-        say_visible(out, text[i]);
-        i += 1;
+#[derive(Clone, Copy)]
+pub struct Shown<'a>(pub &'a [u8]);
+
+impl fmt::Display for Shown<'_> {
+    fn fmt<W: fmt::Write>(&self, f: &mut fmt::Formatter<W>) -> fmt::Result {
+        for &b in self.0 {
+            let shown = if (32..127).contains(&b) { b } else { b'.' };
+            f.write_char(char::from(shown))?;
+        }
+        Ok(())
     }
 }
 
-// Spaces up to a column.
-pub fn pad(out: &Out, used: usize, width: usize) {
-    let mut at = used;
-    while at < width {
-        say(out, b" ");
-        at += 1;
+// Numbers, with a text between them.
+#[derive(Clone, Copy)]
+pub struct Listed<'a> {
+    pub bytes: &'a [u8],
+    pub between: &'a str,
+}
+
+impl<'a> Listed<'a> {
+    // With a blank between them.
+    pub fn new(bytes: &'a [u8]) -> Listed<'a> {
+        Listed {
+            bytes,
+            between: " ",
+        }
     }
 }
 
-// No more than there is, so that a caller may lend `&text[0..r]`.
-pub fn within(size: usize, text: &[u8]) -> usize
-    ensures { result ≤ length text.now }
-{
-    if size <= text.len() { size } else { text.len() }
+impl fmt::Display for Listed<'_> {
+    fn fmt<W: fmt::Write>(&self, f: &mut fmt::Formatter<W>) -> fmt::Result {
+        for (i, b) in self.bytes.iter().enumerate() {
+            if i > 0 {
+                f.write_str(self.between)?;
+            }
+            write!(f, "{b}")?;
+        }
+        Ok(())
+    }
 }

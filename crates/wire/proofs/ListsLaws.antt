@@ -4,17 +4,18 @@ use mathlib.Core.Path.{◌≡◌, refl, sym, ap, ap₂, subst, ◌∙◌}
 use mathlib.Core.Bool.{Bool, true, false, ◌&&◌, and-false, and_assoc}
 use mathlib.Core.List.{List, [], ◌∷◌, ◌++◌, append_assoc, map, flat_map}
 use mathlib.Core.Logic.{⊎_elim}
-use Prim.Native.Nat.{ℕ, zero, suc, ◌+◌, ◌-◌, ◌≤◌, ◌<◌, zero-le}
+use Prim.Native.Nat.{ℕ, zero, suc, ◌+◌, ◌-◌, ◌≤◌, ◌<◌, min, zero-le}
 use native.Mathlib.Nat.{eq-or-lt_of_le, zero-add}
 use native.Mathlib.Numerals.{add-one}
 use native.Mathlib.Omega.{arith}
 use lib.Bits.{bit_or}
 use lib.Dec.{T, leb, leb→le, eqb, eqb→eq, ltb→lt}
-use lib.ListN.{length, get_or, set, take, drop, replicate, length-append, length-drop, length-set, take-append-drop}
+use lib.ListN.{length, get_or, set, take, drop, replicate, length-append, length-drop, length-set, take-append-drop, drop_of_length-le}
 use lib.Seq.{drop-cons, set-append_seam, get_or-drop}
 use mir.Facts.{and_yes, or_yes, yes_and, yes_ltb, yes_eqb}
 use borrow.Author.Tests.{lt-ltb, eq-eqb}
-use Rattle.wire.proofs.BoolLaws.{and_swap, or_zero}
+use Rattle.std.proofs.lemmas.List.{take_all}
+use Rattle.wire.proofs.BoolLaws.{and_swap, or_zero, le_or_lt}
 use Rattle.wire.specs.Lists.{all, all_from, span, from_to, sum, among, snoc, padded, same_list, is_zero, is_byte, all_zero, all_bytes, byte_array}
 
 -- ---- lists from an index on
@@ -254,3 +255,13 @@ zeros_later l n h = all_of is_zero 0 (drop n l) (λ i b. yes_eqb (get_or-drop n 
 pub zeros_from : (l : List ℕ) (n : ℕ) → T (all_zero (drop n l)) → l ≡ take n l ++ replicate (length l - n) 0
 zeros_from l n t =
     sym (take-append-drop n l) ∙ ap (λ (m : List ℕ). take n l ++ m) (zeros_are (drop n l) t ∙ ap (λ (k : ℕ). replicate k 0) (length-drop n l))
+
+-- the part of a list from n on, or from its end where n lies past it
+pub part_from : (l : List ℕ) (n : ℕ)
+    → take (length l - min n (length l)) (drop (min n (length l)) l) ≡ drop n l
+part_from l n =
+    take_all (length l - min n (length l)) (drop (min n (length l)) l) (omega (arith, length-drop (min n (length l)) l))
+    ∙ ⊎_elim
+    (λ h. let e : min n (length l) ≡ n = omega arith in ap (λ (k : ℕ). drop k l) e)
+    (λ h. drop_of_length-le l (omega arith) ∙ sym (drop_of_length-le l (omega arith)))
+    (le_or_lt n (length l))

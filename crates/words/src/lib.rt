@@ -6,6 +6,6 @@ mod parts;
 mod shown;
 mod typed;
 
-pub use parts::{Changed, is_part, set_part};
-pub use shown::{say_meaning, say_mode, say_value};
-pub use typed::{Typed, message_from, opcode_named};
+pub use parts::{is_part, set_part};
+pub use shown::{Mode, Value, meaning, number};
+pub use typed::{message_from, opcode_named};

@@ -1,89 +1,89 @@
-// How modes, numbers and commands are shown. Each gives back the columns that it took.
-use terminal::{Out, bits, plus, say, say_form, say_joined, wide, within};
+// How modes, numbers and commands are shown.
+ghost use Rattle.std.specs.Prelude.{◌≡◌, ◌+◌, [], ◌∷◌, take, codes, MatchOption};
+ghost use Rattle.wire.specs.Replies.{number_of};
 
-fn at_most(n: usize, most: usize) -> usize {
-    if n <= most { n } else { most }
-}
+use command::{Command, Message};
+use std::fmt;
+use std::fmt::Write;
+use terminal::Listed;
+use wire::Refusal;
 
-pub fn say_mode(out: &Out, mode: u8) -> usize {
-    let n = wide(mode);
-    say_form(
-        out,
-        b"[0 Off|Passive|Safe|Full|mode %1]",
-        [at_most(n, 4), n, 0, 0, 0, 0, 0, 0],
-    )
-}
+// A mode by its name; one that has none, by its number.
+#[derive(Clone, Copy)]
+pub struct Mode(pub u8);
 
-// The words for a number given back.
-pub fn say_meaning(out: &Out, number: u8) -> usize {
-    say_form(
-        out,
-        b"[0 done|1 unknown opcode|2 not offered|3 wrong mode|4 data not legal|5 no song|\
-        6 busy playing|7 no room for the answer|8 bad record|9 waiting for more of the frame]",
-        [wide(number), 0, 0, 0, 0, 0, 0, 0],
-    )
-}
-
-// The place of an opcode's name in the form below: 18 is unknown, 24 not offered.
-fn name_of(op: u8) -> usize {
-    match op {
-        128..=151 => wide(op - 128),
-        152..=158 => 24,
-        _ => 18,
+impl fmt::Display for Mode {
+    fn fmt<W: fmt::Write>(&self, f: &mut fmt::Formatter<W>) -> fmt::Result {
+        match self.0 {
+            command::OFF => f.write_str("Off"),
+            command::PASSIVE => f.write_str("Passive"),
+            command::SAFE => f.write_str("Safe"),
+            command::FULL => f.write_str("Full"),
+            n => write!(f, "mode {n}"),
+        }
     }
 }
 
-fn say_command(out: &Out, bytes: [u8; 35]) -> usize {
-    let op = bytes[0];
-    say_form(
-        out,
-        b"[0 Start|Baud(%1)|Control|Safe|Full|Power|Spot|Cover|Demo(~4)|Drive(~5, ~6)|Drivers(%1)|\
-        Leds(%1, %2, %3)|Song(%1, %2)|Play(%1)|Sensors(%1)|Dock|Duties(%1, %2, %3)|\
-        Direct(~5, ~6)|Unknown(%7)|Outputs(%1)|Stream(%1)|QueryList(%1)|Pause(%1)|Infrared(%1)|\
-        NotOffered(%7)]",
-        [
-            name_of(op),
-            wide(bytes[1]),
-            wide(bytes[2]),
-            wide(bytes[3]),
-            bits(wire::widen(wire::read8(bytes[1]))),
-            bits(wire::read16(bytes[1], bytes[2])),
-            bits(wire::read16(bytes[3], bytes[4])),
-            wide(op),
-        ],
-    )
-}
-
-fn legal(count: u8) -> usize {
-    if count <= frame::LEGAL_COUNT {
-        wide(count)
-    } else {
-        0
+// The number that a call gave back: 0 where nothing was refused.
+pub fn number(refusal: Option<Refusal>) -> u8
+    ensures { MatchOption refusal (result ≡ 0) (λ r. result ≡ number_of r) }
+{
+    match refusal {
+        Some(refusal) => u8::from(refusal),
+        None => 0,
     }
 }
 
-// How many bytes behind its count are a frame's notes or ids; none past a legal count.
-fn used(bytes: [u8; 35]) -> usize {
-    match bytes[0] {
-        140 => plus(legal(bytes[2]), legal(bytes[2])),
-        148 | 149 => legal(bytes[1]),
-        _ => 0,
+// The words for what a call gave back. Those for a refusal begin with its number, a digit.
+pub fn meaning(refusal: Option<Refusal>) -> &'static str
+    ensures { MatchOption refusal (result.now ≡ codes "done")
+        (λ r. take 1 result.now ≡ (48 + number_of r) ∷ []) }
+{
+    match refusal {
+        None => "done",
+        Some(Refusal::Unknown) => "1 unknown opcode",
+        Some(Refusal::NotOffered) => "2 not offered",
+        Some(Refusal::WrongMode) => "3 wrong mode",
+        Some(Refusal::NotLegal) => "4 data not legal",
+        Some(Refusal::NoSong) => "5 no song",
+        Some(Refusal::Busy) => "6 busy playing",
+        Some(Refusal::NoRoom) => "7 no room for the answer",
+        Some(Refusal::BadRecord) => "8 bad record",
+        Some(Refusal::Waiting) => "9 waiting for more of the frame",
     }
 }
 
-// The command of a whole frame as a value, and in brackets its notes or ids where it has some:
-// Stream(2) [29, 13].
-pub fn say_value(out: &Out, bytes: [u8; 35]) -> usize {
-    let name = say_command(out, bytes);
-    let n = used(bytes);
-    if n == 0 {
-        return name;
+// The notes or ids of a command; none past a legal count.
+fn listed(message: &Message) -> &[u8] {
+    let payload: &[u8] = &message.payload;
+    match message.command {
+        Command::Song(_, notes) if notes <= frame::LEGAL_COUNT => {
+            &payload[..2 * usize::from(notes)]
+        }
+        Command::QueryList(ids) | Command::Stream(ids) if ids <= frame::LEGAL_COUNT => {
+            &payload[..usize::from(ids)]
+        }
+        _ => b"",
     }
-    let from = if bytes[0] == 140 { 3 } else { 2 };
-    let end = within(plus(from, n), &bytes);
-    if end < from {
-        return name;
+}
+
+// A command as a value, and in brackets its notes or ids where it has some: Stream(2) [29, 13].
+#[derive(Clone, Copy)]
+pub struct Value(pub Message);
+
+impl fmt::Display for Value {
+    fn fmt<W: fmt::Write>(&self, f: &mut fmt::Formatter<W>) -> fmt::Result {
+        write!(f, "{:?}", self.0.command)?;
+        match listed(&self.0) {
+            [] => Ok(()),
+            bytes => write!(
+                f,
+                " [{}]",
+                Listed {
+                    bytes,
+                    between: ", "
+                }
+            ),
+        }
     }
-    let list = plus(say(out, b" ["), say_joined(out, &bytes[from..end], b", "));
-    plus(name, plus(list, say(out, b"]")))
 }

@@ -1,6 +1,6 @@
--- `linetest::read_block` is safe and ends: the turns that are left.
--- Assumes nothing.
+-- What is left of the block grows shorter.
+use Rattle.std.proofs.Common.{length, ◌-◌}
 use Rattle.linetest.proofs.read_block.Given as goal
 
-abbrev pub decreases-loop-turns : goal.decreases-loop-turns
-decreases-loop-turns l = l.turns
+abbrev pub decreases-loop-next : goal.decreases-loop-next
+decreases-loop-next l = length l.block - l.from

@@ -1,6 +1,6 @@
--- `linetest::say_words` is safe and ends: the turns that are left.
--- Assumes nothing.
+-- What is left of the text grows shorter.
+use Rattle.std.proofs.Common.{length, ◌-◌}
 use Rattle.linetest.proofs.say_words.Given as goal
 
-abbrev pub decreases-loop-turns : goal.decreases-loop-turns
-decreases-loop-turns l = l.turns
+abbrev pub decreases-loop-word : goal.decreases-loop-word
+decreases-loop-word l = length l.text - l.from

@@ -3,8 +3,8 @@
 use Rattle.std.proofs.Common.{length, ◌-◌, ◌≤◌}
 use Rattle.hostpage.proofs.fields.fill.Given as goal
 
-abbrev pub invariant-loop-at : goal.invariant-loop-at
-invariant-loop-at l = l.at ≤ length l.text
+abbrev pub invariant-loop-open : goal.invariant-loop-open
+invariant-loop-open l = l.at ≤ length l.text.bytes.now
 
-abbrev pub decreases-loop-at : goal.decreases-loop-at
-decreases-loop-at l = length l.text - l.at
+abbrev pub decreases-loop-open : goal.decreases-loop-open
+decreases-loop-open l = length l.text.bytes.now - l.at

@@ -1,6 +1,0 @@
--- `cases::start::steps` is safe and ends.
--- Assumes nothing.
-use Rattle.cases.proofs.start.steps.Given as goal
-
-abbrev pub decreases-loop-turns : goal.decreases-loop-turns
-decreases-loop-turns l = l.turns

@@ -1,6 +1,0 @@
--- `console::perform::report` is safe and ends.
--- Assumes nothing.
-use Rattle.console.proofs.perform.report.Given as goal
-
-abbrev pub decreases-loop-turns : goal.decreases-loop-turns
-decreases-loop-turns l = l.turns

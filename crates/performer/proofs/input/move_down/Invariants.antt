@@ -1,7 +1,0 @@
--- `performer::input::move_down` is safe and ends.
--- Assumes nothing.
-use Rattle.std.proofs.Common.{◌-◌}
-use Rattle.performer.proofs.input.move_down.Given as goal
-
-abbrev pub decreases-loop-i : goal.decreases-loop-i
-decreases-loop-i l = l.size - l.i

@@ -1,7 +1,0 @@
--- `performer::layout::put_songs` is safe and ends.
--- Assumes nothing.
-use Rattle.std.proofs.Common.{◌-◌}
-use Rattle.performer.proofs.layout.put_songs.Given as goal
-
-abbrev pub decreases-loop-i : goal.decreases-loop-i
-decreases-loop-i l = 16 - l.i

@@ -1,7 +1,0 @@
--- `performer::tally::put_hex` is safe and ends.
--- Assumes nothing.
-use Rattle.std.proofs.Common.{length, ◌-◌}
-use Rattle.performer.proofs.tally.put_hex.Given as goal
-
-abbrev pub decreases-loop-i : goal.decreases-loop-i
-decreases-loop-i l = length l.bytes - l.i
