@@ -19,7 +19,7 @@ pub const ROOM: usize = 300;
 const IMAGE: [u8; 40] =
     *b"defghi\x00klmnopqrstuvwxyz{|}~\x7f\x80\x81\x02\x19\x84\x85\x86\x87\x88\x89\x8a\x8b";
 
-// The flags of a report.
+// The flags of a report: words of a cell here, and no program reads them as another does.
 #[derive(Clone, Copy, Debug, PartialEq, Eq)]
 pub struct Flags {
     pub drop: bool,

@@ -16,7 +16,8 @@ pub enum Next {
     End,
 }
 
-// A safety report.
+// A safety report. Its flags are words of a line here: no program reads them as another does, and
+// the board takes them one by one.
 #[derive(Clone, Copy, Debug, PartialEq, Eq)]
 pub struct Report {
     pub drop: bool,

@@ -37,6 +37,7 @@ pub enum Record<'a> {
     Call(Call<'a>),
 }
 
+// A call of a file; a report's flags are bits of a byte here.
 #[derive(Clone, Copy)]
 pub enum Call<'a> {
     Byte(u8),

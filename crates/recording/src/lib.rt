@@ -119,6 +119,9 @@ fn body<const N: usize>(rest: &[u8]) -> Result<[u8; N], End>
     Ok(bytes)
 }
 
+// The calls up to `pass` take a recording and a place, as their contracts name them;
+// `Reader` is these with the place kept.
+
 // The record at a place.
 pub fn look(s: &[u8], at: usize) -> Result<Record, End>
     ensures { looked result ≡ found (drop at s.now) }
