@@ -139,7 +139,7 @@ module _ (op : ℤ → ℤ → ℤ) (bound : (x y : ℤ) → nat_abs (op x y) �
   bounded : nat_abs (op a b) ≤ 65536
   bounded = omega (arith, bound a b, nat_abs-le a f.sfits, nat_abs-le b g.sfits)
 
-  op_fits : SFits w32 (op (wide a) (wide b))
+  pub op_fits : SFits w32 (op (wide a) (wide b))
   op_fits = rw same (abs_fits (omega (arith, bounded)))
 
   -- what is known of a result that is the absolute value of what the machine computed

@@ -95,6 +95,11 @@ sent_fitted bytes d s e x =
 abbrev pub beside : State → Sent → Told
 beside s sent = record { number = sent.number; length = sent.length; state = s }
 
+-- of a call that leaves the record as it was
+pub beside_kept : (o : Outcome) {s : State} → o.state ≡ s → beside s (sent_as o) ≡ answered o
+unfolding answered sent_as
+beside_kept o e = ap (λ (s : State). record { number = o.number; length = length o.answer; state = s }) (sym e)
+
 fitted_beside : (b : Bool) (bytes : List ℕ) (s : State) → let o = cond b (answers bytes s) (gives 7 s) in beside s (sent_as o) ≡ answered o
 unfolding answered sent_as
 fitted_beside true bytes s = refl

@@ -107,7 +107,7 @@ module _ (s : State) (m : Message) (image d : List ℕ) {d' : List ℕ} (sent : 
 -- ---- the loop
 
 -- what is left of a slice, as the code lends it
-rest_is : (l : List ℕ) (n : ℕ) → take (length l - n) (drop n l) ≡ drop n l
+pub rest_is : (l : List ℕ) (n : ℕ) → take (length l - n) (drop n l) ≡ drop n l
 rest_is l n = ap (λ (k : ℕ). take k (drop n l)) (sym (length-drop n l)) ∙ take-length (drop n l)
 
 pub rest_taken : (p : Partial) (l : List ℕ) (n : ℕ) {t : Absorbed} → t ≡ absorb_of p (take (length l - n) (drop n l)) → t ≡ absorb_of p (drop n l)

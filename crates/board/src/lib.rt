@@ -236,7 +236,7 @@ fn backs_round(right: i16, left: i16) -> bool
     }
     let r = i32::from(right);
     let l = i32::from(left);
-    129 * (r + l).unsigned_abs() < 165 * (r - l).unsigned_abs()
+    129 * wire::magnitude(r + l) < 165 * wire::magnitude(r - l)
 }
 
 // Whether the base moves into a cliff (rules S4 to S7); of a Drive the two numbers are velocity and
@@ -273,23 +273,32 @@ pub fn safety_report(state: State, drop: bool, cliff: bool, charger: bool) -> An
     Answer::new(state, Ok(0))
 }
 
-// A tick: the chunk of the stream list, where there is one to write.
+// What a tick writes: the chunk of the stream list, where there is one.
+fn due(state: &State, image: &[u8; 40], buffer: &mut [u8]) -> Result<usize, Refusal>
+    ensures { (told result ≡ sent_as (tick_of state.now image.now (length buffer.old)))
+        × (buffer.new ≡ written (tick_of state.now image.now (length buffer.old)) buffer.old) }
+{
+    if !state::accepts(*state) {
+        return Err(Refusal::BadRecord);
+    }
+    if state.mode == command::OFF {
+        return Err(Refusal::WrongMode); // rule K1
+    }
+    let stream = &state.stream;
+    if stream.on != state::YES || stream.count == 0 {
+        return Ok(0);
+    }
+    let ids = &stream.ids[..usize::from(stream.count)];
+    packet::chunk(ids, status_of(state), image, buffer)
+}
+
+// A tick. It leaves the record as it is: the one answer is made here, since each more was a copy of
+// the whole record.
 pub fn tick(state: State, image: &[u8; 40], buffer: &mut [u8]) -> Answer
     ensures { (told_answer result ≡ answered (tick_of state image.now (length buffer.old)))
         × (buffer.new ≡ written (tick_of state image.now (length buffer.old)) buffer.old) }
 {
-    if !state::accepts(state) {
-        return Answer::new(state, Err(Refusal::BadRecord));
-    }
-    if state.mode == command::OFF {
-        return Answer::new(state, Err(Refusal::WrongMode));
-    }
-    let stream = state.stream;
-    if stream.on != state::YES || stream.count == 0 {
-        return Answer::new(state, Ok(0));
-    }
-    let ids = &stream.ids[..usize::from(stream.count)];
-    let sent = packet::chunk(ids, status_of(&state), image, buffer);
+    let sent = due(&state, image, buffer);
     Answer { state, sent }
 }
 

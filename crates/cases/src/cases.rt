@@ -63,7 +63,7 @@ impl<'a> Named<'a> {
 }
 
 // frame BYTES | DATA | NUMBERS | RULE: from the first four records, in Off, Passive, Safe and Full.
-#[derive(Drop)]
+#[derive(Clone, Copy)]
 pub struct Frame {
     call: Fields,
     count: Fields,
@@ -105,7 +105,7 @@ impl Frame {
 }
 
 // case START | CALL | BACK | START | RULE: a call from the row's record.
-#[derive(Drop)]
+#[derive(Clone, Copy)]
 pub struct Case {
     before: State,
     call: Fields,
@@ -133,7 +133,7 @@ impl Case {
 
 // held START | BYTE | BACK | START | RULE: a run over 128s ends with the byte before the one named,
 // or with that where it is the first; and one more gives 0.
-#[derive(Drop)]
+#[derive(Clone, Copy)]
 pub struct Held {
     before: State,
     byte: Fields,
@@ -167,7 +167,7 @@ impl Held {
 // bad START | BACK | START | BACK | RULE: a run over no bytes, a byte, a tick, a song end, a report
 // and a run, of a bad record: nothing is written, read or changed. And a run over no bytes, of the
 // record beside it.
-#[derive(Drop)]
+#[derive(Clone, Copy)]
 pub struct Bad {
     state: State,
     back: Fields,
@@ -213,7 +213,7 @@ impl Bad {
 
 // write START | COMMAND | BACK | BACK | START | RULE: what was written, if anything, is given to
 // the board in one run.
-#[derive(Drop)]
+#[derive(Clone, Copy)]
 pub struct Write {
     before: State,
     message: Message,
@@ -243,7 +243,7 @@ impl Write {
 }
 
 // speeds START | EXACT | BACK | RULE
-#[derive(Drop)]
+#[derive(Clone, Copy)]
 pub struct Speeds {
     pub state: State,
     back: Fields,

@@ -39,7 +39,7 @@ enum Kind {
 // Of a call its kind, its bytes, the flags of a report and the room that is lent. Of what comes
 // back the number, how many bytes a run read, the bytes of an answer, and wheel speeds. `lists`:
 // numbers are bytes from here on.
-#[derive(Drop)]
+#[derive(Clone, Copy)]
 pub struct Fields {
     kind: Kind,
     pub bytes: Bytes,
@@ -74,7 +74,7 @@ impl Field {
 
 // A number with a sign, as its sixteen bits.
 fn sixteen(out: &mut Out, text: &mut Text<'_>) -> Result<usize, Told> {
-    let v = text.signed(out, i16::MAX)?;
+    let v = text.signed(out, 32767)?;
     Ok(usize::from(v.cast_unsigned()))
 }
 
@@ -117,8 +117,8 @@ impl Fields {
     fn set(&mut self, out: &mut Out, field: Field, text: &mut Text<'_>) -> Result<(), Told> {
         match field {
             Field::Read => self.read = sixteen(out, text)?,
-            Field::Right => self.speeds.right = text.signed(out, i16::MAX)?,
-            Field::Left => self.speeds.left = text.signed(out, i16::MAX)?,
+            Field::Right => self.speeds.right = text.signed(out, 32767)?,
+            Field::Left => self.speeds.left = text.signed(out, 32767)?,
             Field::Room => self.room = sixteen(out, text)?,
             Field::Wrote => self.lists = true,
             Field::Capped => self.speeds.capped = true,
@@ -156,7 +156,7 @@ impl Fields {
     pub fn fit(&self, given: &Given) -> bool {
         self.fit_number(given.number())
             && self.read == given.read
-            && self.bytes.as_slice() == given.wrote()
+            && wire::same(self.bytes.as_slice(), given.wrote())
             && given.rest().iter().all(|&b| b == 0)
     }
 

@@ -90,7 +90,7 @@ impl<'a> Cells<'a, '_> {
 }
 
 // A line that is compared.
-#[derive(Drop)]
+#[derive(Clone, Copy)]
 pub enum Row<'a> {
     Record(Named<'a>),
     Frame(Frame),

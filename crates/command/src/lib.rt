@@ -164,7 +164,7 @@ impl From<Command> for Head {
             Command::Safe => Head::new([131]),
             Command::Full => Head::new([132]),
             Command::Power => Head::new([133]),
-            Command::Demo(demo) => Head::new([136, demo.cast_unsigned()]),
+            Command::Demo(demo) => Head::new([136, wire::low16(wire::widen(demo))]),
             Command::Spot => Head::new([134]),
             Command::Cover => Head::new([135]),
             Command::Dock => Head::new([143]),
@@ -310,12 +310,13 @@ pub fn is_speed(v: i16) -> bool
     matches!(v, -500..=500)
 }
 
-// Whether a radius is.
+// Whether a radius is. The ranges are asked one by one, since as one pattern they are compiled to
+// more tests.
 #[tactic(auto, unfolding(crate::specs::CommandTable::is_in, crate::specs::CommandTable::is_legal))]
 pub fn is_radius(v: i16) -> bool
     ensures { result ≡ is_legal radius v }
 {
-    matches!(v, -2000..=-1 | 1..=2000 | 32767 | -32768)
+    matches!(v, -2000..=-1) || matches!(v, 1..=2000) || matches!(v, 32767 | -32768)
 }
 
 // Whether the data are legal. What it gives for a variant that is refused as such is free (rule
@@ -324,7 +325,8 @@ pub fn is_radius(v: i16) -> bool
 pub fn legal(message: Message) -> bool
     ensures { result ≡ legal_of message }
 {
-    match message.command {
+    let Message { command, payload } = message;
+    match command {
         Command::Baud(code) => code <= LAST_BAUD,
         Command::Demo(demo) => matches!(demo, -1..=9),
         Command::Drive(velocity, radius) => is_speed(velocity) && is_radius(radius),
@@ -339,8 +341,10 @@ pub fn legal(message: Message) -> bool
         }
         Command::Play(song) => song <= LAST_SONG,
         Command::Sensors(id) => id <= packet::LAST_ID,
-        Command::QueryList(ids) => ids <= frame::LEGAL_COUNT && packet::listable(message.used()),
-        Command::Stream(ids) => ids <= frame::LEGAL_COUNT && packet::streamable(message.used()),
+        Command::QueryList(ids) => ids <= frame::LEGAL_COUNT
+            && packet::listable(&payload[..command.payload_size()]),
+        Command::Stream(ids) => ids <= frame::LEGAL_COUNT
+            && packet::streamable(&payload[..command.payload_size()]),
         Command::Pause(on) => on <= 1,
         Command::Unknown(_) | Command::NotOffered(_) => false,
         // No data, or any bytes.

@@ -108,7 +108,7 @@ fn begin(out: &mut Out, stdin: Stdin) {
 }
 
 fn main(rt: HostRuntime) {
-    let mut out = Out::new();
+    let mut out = Out::to(rt.stdout());
     let mut word = [0u8; 64];
     match rt.arg(1, &mut word) {
         Ok(n) => say_argument(&mut out, &word[..n]),

@@ -35,7 +35,7 @@ pub struct Repeat {
 
 // What a console keeps from line to line. Text goes to `Out`, which stands beside it: half of what
 // is said needs no session.
-#[derive(Drop)]
+#[derive(Clone, Copy)]
 pub struct Session {
     pub state: State,
     pub image: [u8; 40],

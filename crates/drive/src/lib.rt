@@ -56,7 +56,7 @@ fn nearest(n: i32, d: i32) -> i32
     ensures { result ≡ nearest_of n d }
 {
     let quotient = n / d;
-    if 2 * (n % d).unsigned_abs() < d.unsigned_abs() {
+    if 2 * wire::magnitude(n % d) < wire::magnitude(d) {
         return quotient;
     }
     if (n < 0) == (d < 0) {
@@ -131,13 +131,13 @@ pub fn wheel_speeds(kind: u8, first: i16, second: i16) -> Result<Speeds, Refusal
     if !state::wheels_ok(order) {
         return Err(Refusal::NotLegal);
     }
-    let wheels = match kind {
-        state::DRIVE => curve(first, second),
-        state::DIRECT => Wheels {
+    // Capped in each arm: the compiler sees there that a legal Direct's speeds need none.
+    match kind {
+        state::DRIVE => Ok(cap_both(curve(first, second))),
+        state::DIRECT => Ok(cap_both(Wheels {
             right: i32::from(first),
             left: i32::from(second),
-        },
-        _ => Wheels { right: 0, left: 0 },
-    };
-    Ok(cap_both(wheels))
+        })),
+        _ => Ok(cap_both(Wheels { right: 0, left: 0 })),
+    }
 }

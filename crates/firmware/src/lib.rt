@@ -144,7 +144,7 @@ pub fn board_accepts(state: &State) -> u8
 pub fn board_same(a: &State, b: &State) -> u8
     ensures { result ≡ flag_of (same_state a.now b.now) }
 {
-    u8::from(state::same(*a, *b))
+    u8::from(state::same_lent(a, b))
 }
 
 // The host-side writer, of a message in flat fields: 4, then 7, then the frame.

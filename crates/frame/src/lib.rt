@@ -64,8 +64,8 @@ pub struct Taken {
     pub count: usize,
 }
 
-// The one place where framing is decided. One test over opcodes 0 to 255 holds this match against
-// the frame table.
+// The one place where framing is decided. Each arm of the match is held against what the frame
+// table says of its opcodes.
 #[tactic(auto, unfolding(crate::specs::FrameTable::data_length))]
 pub fn data_length(op: u8) -> Length
     ensures { result ≡ data_length op }

@@ -178,8 +178,11 @@ fn say_alone(out: &mut Out, page: &Page, field: Alone, rest: &[u8]) {
 
 // A field by its name.
 fn say_field(out: &mut Out, page: &Page, mut text: Text<'_>, rest: &[u8]) {
-    let start = text.place();
-    match Field::named(text.name()) {
+    let (start, name) = match text.word() {
+        Some(word) => (word.start, word.bytes),
+        None => (text.bytes.len(), &b""[..]),
+    };
+    match Field::named(name) {
         Some(Field::Bytes(field)) => say_bytes(out, page, field, &mut text),
         Some(Field::Alone(field)) if text.ends(out).is_ok() => say_alone(out, page, field, rest),
         Some(Field::Alone(_)) => (),

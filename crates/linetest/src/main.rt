@@ -99,8 +99,8 @@ fn show(out: &mut Out, name: &str, text: &[u8]) {
     read_text(out, text);
 }
 
-fn main() {
-    let mut out = Out::new();
+fn main(rt: HostRuntime) {
+    let mut out = Out::to(rt.stdout());
     show(
         &mut out,
         "ordinary",

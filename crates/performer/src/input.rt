@@ -10,7 +10,7 @@ const LONGEST: usize = 2048;
 // Where the file is read from, where in the block the bytes stand that are not used yet, the offset
 // of the first of them in the file, and why there are no more, once that is so. The block stands
 // beside it: a record borrows its body from there while the window moves on.
-#[derive(Drop)]
+#[derive(Clone, Copy)]
 pub struct Window {
     stdin: Stdin,
     from: usize,

@@ -126,7 +126,8 @@ fn put_motors<S: Sink>(sink: &mut S, motors: &Motors) {
 fn put_kept<S: Sink>(sink: &mut S, kept: &Kept) {
     sink.put(&[kept.baud]);
     sink.put(&kept.leds);
-    sink.put(&[kept.outputs, kept.ir]);
+    sink.put(&[kept.outputs]);
+    sink.put(&[kept.ir]);
 }
 
 fn put_songs<S: Sink>(sink: &mut S, songs: &Songs) {
@@ -134,12 +135,14 @@ fn put_songs<S: Sink>(sink: &mut S, songs: &Songs) {
         sink.put(&[song.len]);
         sink.put(&song.notes);
     }
-    sink.put(&[songs.selected, songs.playing]);
+    sink.put(&[songs.selected]);
+    sink.put(&[songs.playing]);
 }
 
 fn put_stream<S: Sink>(sink: &mut S, stream: &Stream) {
     sink.put(&stream.ids);
-    sink.put(&[stream.count, stream.on]);
+    sink.put(&[stream.count]);
+    sink.put(&[stream.on]);
 }
 
 fn put_partial<S: Sink>(sink: &mut S, partial: &Partial) {

@@ -67,16 +67,30 @@ impl fmt::Display for Tally {
     }
 }
 
+// The most bytes that become text at once: more than the longest answer has.
+const PART: usize = 1024;
+
 // Bytes in hexadecimal, to standard output.
 #[derive(Drop)]
 pub struct Trace<'a> {
     pub out: &'a mut Out,
 }
 
+const DIGITS: [u8; 16] = *b"0123456789abcdef";
+
+fn hexadecimal(b: u8) -> [u8; 2] {
+    [DIGITS[usize::from(b / 16)], DIGITS[usize::from(b % 16)]]
+}
+
+// Many bytes become text at once: a record has 602, each by `{b:02x}` cost four times as much.
 impl Sink for Trace<'_> {
     fn put(&mut self, bytes: &[u8]) {
-        for &b in bytes {
-            say!(self.out, "{b:02x}");
+        for part in bytes.chunks(PART) {
+            let mut text = [[0u8; 2]; PART];
+            for (to, &b) in text.iter_mut().zip(part) {
+                *to = hexadecimal(b);
+            }
+            self.out.say(text[..part.len().min(PART)].as_flattened());
         }
     }
 }

@@ -27,13 +27,13 @@ use Rattle.recording.proofs.ReplayProved.{stage_append}
 abbrev pub with_state : Stage → State → Stage
 with_state g s = record { state = s; image = g.image }
 
-abbrev done_as : Stage → ℕ → State → ToldDone
+abbrev pub done_as : Stage → ℕ → State → ToldDone
 done_as g n s = record { number = n; stage = with_state g s }
 
-abbrev done_from : Stage → Told → ToldDone
+abbrev pub done_from : Stage → Told → ToldDone
 done_from g t = done_as g t.number t.state
 
-abbrev done_of : Stage → Outcome → ToldDone
+abbrev pub done_of : Stage → Outcome → ToldDone
 done_of g o = done_as g o.number o.state
 
 err_number : (r : Result ℕ Refusal) → refused_number (result_err r) ≡ (told r).number

@@ -153,7 +153,14 @@ pub fn power_on() -> State
 pub fn same(a: State, b: State) -> bool
     ensures { result ≡ same_state a b }
 {
-    a == b
+    same_lent(&a, &b)
+}
+
+// And of records that are lent: so neither is copied.
+pub fn same_lent(a: &State, b: &State) -> bool
+    ensures { result ≡ same_state a.now b.now }
+{
+    *a == *b
 }
 
 // A Drive order of velocity 0 is not off.
@@ -265,13 +272,14 @@ fn stream_ok(stream: Stream) -> bool
         && wire::clear_from(&stream.ids, n)
 }
 
-// Whether the board takes a record; a bad one is any other.
+// Whether the board takes a record; a bad one is any other. The songs are copied where they are
+// asked, and not the whole record before anything is: a bad one is mostly told by what comes first.
 pub fn accepts(state: State) -> bool
     ensures { result ≡ accepted_of state }
 {
     motors_ok(state.mode, state.motors)
         && kept_ok(state.kept)
-        && songs_ok(&state.songs)
+        && songs_ok(&{ state.songs })
         && stream_ok(state.stream)
         && frame::reachable(state.partial)
 }

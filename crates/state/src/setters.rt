@@ -98,17 +98,19 @@ pub fn with_infrared(mut state: State, code: u8) -> State
     state
 }
 
-// There is none of 16 and above. The table is taken out and put back: written in place, it cost
-// each run of the board some 6 in 100 more.
-pub fn with_song(mut state: State, song: u8, len: u8, notes: [u8; 32]) -> State
+// There is none of 16 and above. The songs are taken out and put back: written in place, or with
+// the table alone taken out, it cost each run of the board more.
+pub fn with_song(state: State, song: u8, len: u8, notes: [u8; 32]) -> State
     ensures { result ≡ with_song song (record { len = len; notes = notes }) state }
 {
-    if song <= command::LAST_SONG {
-        let mut table = state.songs.table;
-        table[usize::from(song)] = Song { len, notes };
-        state.songs.table = table;
+    if song > command::LAST_SONG {
+        return state;
     }
-    state
+    let mut songs = state.songs;
+    let mut table = songs.table;
+    table[usize::from(song)] = Song { len, notes };
+    songs.table = table;
+    with_songs(state, songs)
 }
 
 // Selected, and playing.

@@ -9,7 +9,7 @@ use std::io::{Read, Stdin};
 // Where it is read from, a block, the place in it of the next byte and after its last one, the
 // number of the last line, and why there is no more, once that is so. A read fills the block, and
 // what is not used yet is a part of it.
-#[derive(Drop)]
+#[derive(Clone, Copy)]
 pub struct Input {
     stdin: Stdin,
     block: [u8; 4096],

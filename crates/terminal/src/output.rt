@@ -1,11 +1,12 @@
 // Text to standard output.
 ghost use Rattle.std.specs.Prelude.{◌≡◌};
-ghost use Rattle.terminal.specs.Columns.{column_after, columns_after};
+ghost use Rattle.terminal.specs.Columns.{columns_after};
 
 use crate::say;
 use arrayvec::ArrayVec;
 use std::fmt;
 use std::fmt::Write;
+use std::io::{Stdout, Write as _};
 
 const STDOUT: i32 = 1;
 
@@ -14,21 +15,63 @@ const STDERR: i32 = 2;
 // What waits to be written at once.
 const ROOM: usize = 1024;
 
-// Standard output: the text that waits, the columns of its last line, and whether it has been told
-// that it cannot be written.
+// Standard output, where it is at hand; the text that waits and where each piece of it ends, the
+// columns of its last line, and whether it has been told that it cannot be written.
 #[derive(Drop)]
 pub struct Out {
+    stdout: Option<Stdout>,
     waiting: ArrayVec<u8, ROOM>,
+    ends: ArrayVec<u16, ROOM>,
     column: usize,
     told: bool,
 }
 
+// Output that cannot be written is told once, where it still may be seen.
+fn write_or_tell(text: &[u8], told: &mut bool) {
+    if !io::write_all(STDOUT, text) && !*told {
+        *told = true;
+        io::write_all(STDERR, b"standard output cannot be written\n");
+    }
+}
+
+// The column after a text, which is looked at from its end: what stands before its last newline
+// does not count.
+fn columns_behind(column: usize, text: &[u8]) -> usize
+    ensures { result ≡ columns_after column text.now }
+{
+    let mut added = 0;
+    while added < text.len() {
+        let last = text[text.len() - added - 1];
+        if last == b'\n' {
+            return added;
+        }
+        added += 1;
+    }
+    column.wrapping_add(added)
+}
+
 impl Out {
+    // Each piece is written by itself.
     pub fn new() -> Out
         ensures { result.column ≡ 0 }
     {
+        Out::over(None)
+    }
+
+    // What waits is written at once, as far as it is taken.
+    pub fn to(stdout: Stdout) -> Out
+        ensures { result.column ≡ 0 }
+    {
+        Out::over(Some(stdout))
+    }
+
+    fn over(stdout: Option<Stdout>) -> Out
+        ensures { result.column ≡ 0 }
+    {
         Out {
+            stdout,
             waiting: ArrayVec::new(),
+            ends: ArrayVec::new(),
             column: 0,
             told: false,
         }
@@ -48,41 +91,55 @@ impl Out {
         self.column = 0;
     }
 
-    // Text as it is.
+    // Text as it is. What does not fit behind what waits goes after it, and what is longer than all
+    // that may wait is written as it is.
     pub fn say(&mut self, text: &[u8])
         ensures { self.new.column ≡ columns_after self.old.column text.now }
     {
-        for &b in text {
-            self.put(b);
-        }
-    }
-
-    fn put(&mut self, b: u8)
-        ensures { self.new.column ≡ column_after self.old.column b }
-    {
-        if self.waiting.is_full() {
+        if self.waiting.remaining_capacity() < text.len() {
             self.flush();
         }
-        let _ = self.waiting.try_push(b);
-        self.column = match b {
-            b'\n' => 0,
-            _ => self.column.wrapping_add(1),
-        };
+        if self.waiting.try_extend_from_slice(text).is_err() {
+            write_or_tell(text, &mut self.told);
+        } else if !text.is_empty() {
+            let end = u16::try_from(self.waiting.len()).unwrap_or(u16::MAX);
+            let _ = self.ends.try_push(end);
+        }
+        self.column = columns_behind(self.column, text);
     }
 
-    // What waits is written. Output that cannot be written is told once, where it still may be
-    // seen.
+    // Numbers, with any bytes between them; `Listed` has a text there.
+    pub fn say_joined(&mut self, bytes: &[u8], between: &[u8]) {
+        for (i, b) in bytes.iter().enumerate() {
+            if i > 0 {
+                self.say(between);
+            }
+            say!(self, "{b}");
+        }
+    }
+
+    // What waits is written at once. Where not all of it is taken, the rest goes piece by piece, as
+    // it was said: of one that cannot be written the rest is lost, and the next is tried.
     pub fn flush(&mut self)
         ensures { self.new.column ≡ self.old.column }
     {
         if self.waiting.is_empty() {
             return;
         }
-        if !io::write_all(STDOUT, self.waiting.as_slice()) && !self.told {
-            self.told = true;
-            io::write_all(STDERR, b"standard output cannot be written\n");
+        let text = self.waiting.as_slice();
+        let mut from = match &mut self.stdout {
+            Some(stdout) => stdout.write(text).unwrap_or(0),
+            None => 0,
+        };
+        if from < text.len() {
+            for &end in self.ends.as_slice() {
+                let piece = text.get(from..usize::from(end)).unwrap_or(b"");
+                write_or_tell(piece, &mut self.told);
+                from = from.max(usize::from(end));
+            }
         }
         self.waiting = ArrayVec::new();
+        self.ends = ArrayVec::new();
     }
 
     // The start of a message: where a person finds what was wrong. Places are counted from 1.
@@ -94,7 +151,7 @@ impl Out {
     // Spaces up to a column.
     pub fn pad(&mut self, width: usize) {
         for _ in self.column..width {
-            self.put(b' ');
+            self.say(b" ");
         }
     }
 }

@@ -1,11 +1,10 @@
 // A line as it is read, word by word: its numbers, and what is said of bad ones, with the line, the
 // place, and what was wrong.
-ghost use Rattle.std.specs.Prelude.{◌≡◌, ◌+◌, ◌≤◌, ◌<◌, length, take, IfSome, MatchOption};
+ghost use Rattle.std.specs.Prelude.{◌≡◌, ◌+◌, ◌≤◌, ◌<◌, length, min, take, IfOk, IfSome, MatchOption};
 ghost use Rattle.line.specs.Text.{word_from, NoWord, IsWord};
 
 use crate::output::{Out, Shown};
 use crate::say;
-use arrayvec::ArrayVec;
 use line::{NoNumber, Number, Word};
 use std::fmt;
 use std::fmt::Write;
@@ -13,7 +12,47 @@ use std::fmt::Write;
 // The most numbers of a line.
 pub const MOST: usize = 512;
 
-pub type Bytes = ArrayVec<u8, MOST>;
+// Numbers from 0 to 255, in the first places. It is copied as it is, which an `ArrayVec` is not: so
+// it is an array with a count.
+#[derive(Clone, Copy)]
+pub struct Bytes {
+    pub values: [u8; MOST],
+    pub count: usize,
+}
+
+impl Bytes {
+    pub fn new() -> Bytes
+        ensures { result.count ≡ 0 }
+    {
+        Bytes {
+            values: [0; MOST],
+            count: 0,
+        }
+    }
+
+    pub fn len(&self) -> usize
+        ensures { result ≡ min self.now.count 512 }
+    {
+        self.count.min(MOST)
+    }
+
+    pub fn as_slice(&self) -> &[u8]
+        ensures { result.now ≡ take (min self.now.count 512) self.now.values }
+    {
+        &self.values[..self.len()]
+    }
+
+    // One number more, where there is room for it.
+    fn push(&mut self, b: u8)
+        requires { self.old.count ≤ 512 }
+        ensures { self.new.count ≤ 512 }
+    {
+        if let Some(place) = self.values.get_mut(self.count) {
+            *place = b;
+            self.count += 1;
+        }
+    }
+}
 
 // What was wrong has been said.
 #[derive(Clone, Copy, Debug, PartialEq, Eq)]
@@ -54,16 +93,16 @@ fn byte_of(word: &[u8]) -> Result<u8, NoByte> {
     }
 }
 
-// The number that a word says, from -(most + 1) to most.
-fn signed_of(word: &[u8], most: i16) -> Option<i16> {
+// The number that a word says, from -(most + 1) to most, sixteen bits at the widest.
+fn signed_of(word: &[u8], most: usize) -> Option<i16> {
     let value = match line::signed(word) {
-        Ok(Number::Plain(n)) => i32::try_from(n).ok()?,
-        Ok(Number::Minus(n)) => i32::try_from(n).ok()?.checked_neg()?,
-        Err(_) => return None,
+        Ok(Number::Plain(n)) if n <= most => i32::try_from(n).ok()?,
+        Ok(Number::Minus(n)) if n == 0 || n <= most.wrapping_add(1) => {
+            i32::try_from(n).ok()?.checked_neg()?
+        }
+        _ => return None,
     };
-    let v = i16::try_from(value).ok()?;
-    let least = most.wrapping_neg().wrapping_sub(1);
-    (least..=most).contains(&v).then_some(v)
+    i16::try_from(value).ok()
 }
 
 impl<'a> Text<'a> {
@@ -134,7 +173,9 @@ impl<'a> Text<'a> {
     }
 
     // The numbers from 0 to 255 up to the line's end, 512 at most; one word more is told.
-    pub fn numbers(&mut self, out: &mut Out) -> Result<Bytes, Told> {
+    pub fn numbers(&mut self, out: &mut Out) -> Result<Bytes, Told>
+        ensures { IfOk result (λ b. b.count ≤ 512) }
+    {
         let mut values = Bytes::new();
         for _ in 0..MOST {
             let Some(word) = self.word() else {
@@ -142,7 +183,7 @@ impl<'a> Text<'a> {
             };
             match byte_of(word.bytes) {
                 Ok(b) => {
-                    let _ = values.try_push(b);
+                    values.push(b);
                 }
                 Err(fault) => {
                     self.say_where(out, word.start);
@@ -161,8 +202,9 @@ impl<'a> Text<'a> {
         say!(out, "numbers wanted: {wanted}, given: {given}\n");
     }
 
-    // A number with a sign, from -(most + 1) to most.
-    pub fn signed(&mut self, out: &mut Out, most: i16) -> Result<i16, Told> {
+    // A number with a sign. Its width has the numbers from -(most + 1) to most, sixteen bits at the
+    // widest.
+    pub fn signed(&mut self, out: &mut Out, most: usize) -> Result<i16, Told> {
         let place = self.place();
         let Some(word) = self.word() else {
             self.say_where(out, place);
@@ -173,11 +215,11 @@ impl<'a> Text<'a> {
             return Ok(v);
         }
         self.say_where(out, place);
-        let least = i32::from(most).wrapping_neg().wrapping_sub(1);
         say!(
             out,
-            "{} is not a number from {least} to {most}\n",
-            Shown(word.bytes)
+            "{} is not a number from -{} to {most}\n",
+            Shown(word.bytes),
+            most.wrapping_add(1)
         );
         Err(Told)
     }

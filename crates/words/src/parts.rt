@@ -100,7 +100,7 @@ impl Part {
     // A number below a limit.
     fn below(out: &mut Out, text: &mut Text<'_>, limit: usize) -> Part {
         let place = text.at;
-        let read = text.signed(out, i16::MAX);
+        let read = text.signed(out, 32767);
         let part = Part {
             value: read.unwrap_or(0),
             right: read.map(|_| ()),

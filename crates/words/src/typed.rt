@@ -58,8 +58,8 @@ fn signed_byte(out: &mut Out, op: u8, text: &mut Text<'_>) -> Result<Message, To
 
 // Two numbers of sixteen bits, high byte first.
 fn pair(out: &mut Out, op: u8, text: &mut Text<'_>) -> Result<Message, Told> {
-    let first = text.signed(out, i16::MAX)?.to_be_bytes();
-    let second = text.signed(out, i16::MAX)?.to_be_bytes();
+    let first = text.signed(out, 32767)?.to_be_bytes();
+    let second = text.signed(out, 32767)?.to_be_bytes();
     text.ends(out)?;
     Ok(framed(&[op, first[0], first[1], second[0], second[1]], b""))
 }

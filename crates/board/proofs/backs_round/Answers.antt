@@ -25,7 +25,7 @@ pub returns : goal.returns
 unfolding backs_round
 returns c =
     let f = c.ranges in
-    let sum = op_is ◌+ℤ◌ abs_sum f.right f.left (rw (c.from-r.ensures, c.from-l.ensures) at c.unsigned_abs.ensures.value) in
-    let difference = op_is ◌-ℤ◌ abs_difference f.right f.left (rw (c.from-r.ensures, c.from-l.ensures) at c.unsigned_abs-2.ensures.value) in
+    let sum = op_is ◌+ℤ◌ abs_sum f.right f.left (rw (c.from-r.ensures, c.from-l.ensures) at c.magnitude.ensures) in
+    let difference = op_is ◌-ℤ◌ abs_difference f.right f.left (rw (c.from-r.ensures, c.from-l.ensures) at c.magnitude-2.ensures) in
     (λ i. ltb (129 * sum i) (165 * difference i))
     ∙ sym (simp (rw (to_z-of_z f.right) at c.if-right-gt0.false, rw (to_z-of_z f.left) at c.if-left-gt0.false, compared c.args.right c.args.left))

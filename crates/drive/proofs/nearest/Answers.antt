@@ -24,22 +24,22 @@ next_held op bound {n} {d} f g k =
     let fits : SFits w32 (op (held n d) (pos 1)) = rw q (abs_fits (omega (arith, k, bound (quot_z n d) (pos 1), quot_abs n d, div-le_self (nat_abs n) (nat_abs d)))) in
     to_z-of_z fits ∙ ap (λ (z : ℤ). op z (pos 1)) q
 
-pub returns-then-unsigned_abs : goal.returns-then-unsigned_abs
-returns-then-unsigned_abs c =
+pub returns-then-magnitude : goal.returns-then-magnitude
+returns-then-magnitude c =
     quotient_held c.ranges.n c.ranges.d (omega (arith, c.requires.n_bound))
     ∙ stays c.args.n c.args.d c.requires.d_nonzero
-    (omega (arith, c.if-unsigned_abs.true, c.unsigned_abs.ensures.value ∙ ap nat_abs (remainder_held c.ranges.n c.ranges.d), c.unsigned_abs-2.ensures.value ∙ ap nat_abs (to_z-of_z c.ranges.d)))
+    (omega (arith, c.if-magnitude.true, c.magnitude.ensures ∙ ap nat_abs (remainder_held c.ranges.n c.ranges.d), c.magnitude-2.ensures ∙ ap nat_abs (to_z-of_z c.ranges.d)))
 
 pub returns-then-n-d : goal.returns-then-n-d
 returns-then-n-d c =
     next_held ◌+ℤ◌ abs_sum c.ranges.n c.ranges.d c.requires.n_bound
     ∙ goes_up c.args.n c.args.d c.requires.d_nonzero
-    (omega (arith, c.if-unsigned_abs.false, c.unsigned_abs.ensures.value ∙ ap nat_abs (remainder_held c.ranges.n c.ranges.d), c.unsigned_abs-2.ensures.value ∙ ap nat_abs (to_z-of_z c.ranges.d)))
+    (omega (arith, c.if-magnitude.false, c.magnitude.ensures ∙ ap nat_abs (remainder_held c.ranges.n c.ranges.d), c.magnitude-2.ensures ∙ ap nat_abs (to_z-of_z c.ranges.d)))
     (rw (to_z-of_z c.ranges.n, to_z-of_z c.ranges.d) at c.if-n-d.true)
 
 pub returns-else-n-d : goal.returns-else-n-d
 returns-else-n-d c =
     next_held ◌-ℤ◌ abs_difference c.ranges.n c.ranges.d c.requires.n_bound
     ∙ goes_below c.args.n c.args.d c.requires.d_nonzero
-    (omega (arith, c.if-unsigned_abs.false, c.unsigned_abs.ensures.value ∙ ap nat_abs (remainder_held c.ranges.n c.ranges.d), c.unsigned_abs-2.ensures.value ∙ ap nat_abs (to_z-of_z c.ranges.d)))
+    (omega (arith, c.if-magnitude.false, c.magnitude.ensures ∙ ap nat_abs (remainder_held c.ranges.n c.ranges.d), c.magnitude-2.ensures ∙ ap nat_abs (to_z-of_z c.ranges.d)))
     (rw (to_z-of_z c.ranges.n, to_z-of_z c.ranges.d) at c.if-n-d.false)
