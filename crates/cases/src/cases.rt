@@ -6,9 +6,8 @@ use crate::row::Cells;
 use crate::session::Session;
 use command::Message;
 use state::State;
-use std::fmt;
 use std::fmt::Write as _;
-use terminal::{Listed, Out, Told, say};
+use terminal::{Out, Told, say};
 use wire::Refusal;
 
 // As many 128s as any held frame owes.
@@ -16,29 +15,24 @@ const ENOUGH: [u8; 512] = [128; 512];
 
 // A record by its mode, its wheel order with two numbers, and its duties. A mode or an order that
 // is none has no name.
-#[derive(Clone, Copy)]
-struct Shown<'a>(&'a State);
-
-impl fmt::Display for Shown<'_> {
-    fn fmt<W: fmt::Write>(&self, f: &mut fmt::Formatter<W>) -> fmt::Result {
-        let motors = self.0.motors;
-        let mode = match self.0.mode {
-            0 => "Off",
-            1 => "Passive",
-            2 => "Safe",
-            3 => "Full",
-            _ => "",
-        };
-        let order = match motors.order {
-            state::NO_ORDER => "none",
-            state::DRIVE => "Drive",
-            state::DIRECT => "Direct",
-            _ => "",
-        };
-        let (first, second) = (motors.first, motors.second);
-        let duties = Listed::new(&motors.duties);
-        write!(f, "{mode}, {order} {first} {second}, {duties}")
-    }
+fn say_record(out: &mut Out, state: &State) {
+    let motors = state.motors;
+    let mode = match state.mode {
+        0 => "Off",
+        1 => "Passive",
+        2 => "Safe",
+        3 => "Full",
+        _ => "",
+    };
+    let order = match motors.order {
+        state::NO_ORDER => "none",
+        state::DRIVE => "Drive",
+        state::DIRECT => "Direct",
+        _ => "",
+    };
+    let (first, second) = (motors.first, motors.second);
+    say!(out, " -> {mode}, {order} {first} {second}, ");
+    out.say_joined(&motors.duties, b" ");
 }
 
 // record NAME START | START
@@ -57,7 +51,7 @@ impl<'a> Named<'a> {
     }
 
     pub fn differs(&self, out: &mut Out) -> bool {
-        say!(out, " -> {}", Shown(&self.state));
+        say_record(out, &self.state);
         self.state != self.same
     }
 }
@@ -126,7 +120,8 @@ impl Case {
 
     pub fn differs(&self, out: &mut Out) -> bool {
         let given = give(self.before, self.call.call(), self.call.room);
-        say!(out, "{given} -> {}", Shown(&given.state));
+        given.say(out);
+        say_record(out, &given.state);
         !self.back.fit(&given) || given.state != self.after
     }
 }
@@ -155,7 +150,8 @@ impl Held {
     pub fn differs(&self, out: &mut Out) -> bool {
         let ended = give(self.before, Call::Run(&ENOUGH), ROOM);
         let next = give(ended.state, Call::Run(&[128]), ROOM);
-        say!(out, "{ended}{next}");
+        ended.say(out);
+        next.say(out);
         let read = self.byte.number.saturating_sub(1).max(1);
         ended.read != read
             || !self.back.fit_number(ended.number())
@@ -202,11 +198,11 @@ impl Bad {
         let mut differs = false;
         for call in calls {
             let given = give(self.state, call, ROOM);
-            say!(out, "{given}");
+            given.say(out);
             differs |= !self.back.fit(&given) || given.state != self.state;
         }
         let given = give(self.good, Call::Run(&[]), ROOM);
-        say!(out, "{given}");
+        given.say(out);
         differs || !self.accepted.fit(&given)
     }
 }
@@ -237,7 +233,9 @@ impl Write {
     pub fn differs(&self, out: &mut Out) -> bool {
         let sent = give_writer(self.before, self.message);
         let given = give(self.before, Call::Run(sent.wrote()), ROOM);
-        say!(out, "{sent}{given} -> {}", Shown(&given.state));
+        sent.say(out);
+        given.say(out);
+        say_record(out, &given.state);
         !self.sent.fit(&sent) || !self.back.fit(&given) || given.state != self.after
     }
 }
@@ -263,10 +261,13 @@ impl Speeds {
         let given = drive::wheel_speeds(motors.order, motors.first, motors.second);
         match given {
             Ok(speeds) => {
-                say!(out, " -> 0 right {} left {}", speeds.right, speeds.left);
-                if speeds.capped {
-                    say!(out, " capped");
-                }
+                let capped = if speeds.capped { " capped" } else { "" };
+                say!(
+                    out,
+                    " -> 0 right {} left {}{capped}",
+                    speeds.right,
+                    speeds.left
+                );
             }
             Err(refusal) => say!(out, " -> {}", u8::from(refusal)),
         }

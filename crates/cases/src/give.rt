@@ -4,9 +4,7 @@ ghost use Rattle.std.specs.Prelude.{◌≤◌};
 use board::Ran;
 use command::Message;
 use state::State;
-use std::fmt;
-use std::fmt::Write;
-use terminal::Listed;
+use terminal::{Out, Write, say};
 use wire::Refusal;
 
 // The bytes that a call may write over, and how many of them are lent where a line says nothing.
@@ -68,19 +66,20 @@ impl Given {
     {
         self.sent.unwrap_or(0).min(BUFFER)
     }
-}
 
-// What came back, in the words of the cell that expects it.
-impl fmt::Display for Given {
-    fn fmt<W: fmt::Write>(&self, f: &mut fmt::Formatter<W>) -> fmt::Result {
-        write!(f, " -> {}", self.number())?;
+    // What came back, in the words of the cell that expects it.
+    pub fn say(&self, out: &mut Out) {
+        let wrote = if self.wrote().is_empty() {
+            ""
+        } else {
+            " wrote "
+        };
         if self.read > 0 {
-            write!(f, " read {}", self.read)?;
+            say!(out, " -> {} read {}{wrote}", self.number(), self.read);
+        } else {
+            say!(out, " -> {}{wrote}", self.number());
         }
-        if !self.wrote().is_empty() {
-            write!(f, " wrote {}", Listed::new(self.wrote()))?;
-        }
-        Ok(())
+        out.say_joined(self.wrote(), b" ");
     }
 }
 

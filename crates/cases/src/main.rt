@@ -94,7 +94,7 @@ fn take_lines(out: &mut Out, session: &mut Session, input: &mut Input) {
 }
 
 fn main(rt: HostRuntime) {
-    let mut out = Out::to(rt.stdout());
+    let mut out = Out::new();
     let mut session = Session::new();
     let mut input = Input::new(rt.stdin());
     take_lines(&mut out, &mut session, &mut input);

@@ -66,8 +66,8 @@ impl fmt::Display for Fault {
 
 impl Fault {
     pub fn tell(self, out: &mut Out, line: usize, place: usize) -> Told {
-        out.say_where(line, place);
-        say!(out, "{self}\n");
+        let place = place.wrapping_add(1);
+        say!(out, "line {line}: place {place}: {self}\n");
         Told
     }
 }

@@ -2,8 +2,7 @@
 // the record after it.
 use crate::session::{Came, MOST_ROOM, Session};
 use crate::{answers, show};
-use std::fmt;
-use terminal::{Listed, Out, Shown, Write, say};
+use terminal::{Out, Write, say};
 
 // A line that was typed is shown whole up to LABEL bytes, and of a longer one as much as was kept
 // of it.
@@ -23,16 +22,19 @@ enum Given<'a> {
     Bytes(&'a [u8]),
 }
 
-impl fmt::Display for Given<'_> {
-    fn fmt<W: fmt::Write>(&self, f: &mut fmt::Formatter<W>) -> fmt::Result {
+impl Given<'_> {
+    fn say(self, out: &mut Out) {
         match self {
-            Given::Typed(text) if text.len() <= LABEL => write!(f, "{}", Shown(text)),
-            Given::Typed(text) => write!(f, "{} ..", Shown(&text[..text.len().min(KEPT)])),
-            Given::Byte(b) => write!(f, "byte {b}"),
-            Given::Bytes(bytes) if bytes.len() <= FEW => write!(f, "{}", Listed::new(bytes)),
+            Given::Typed(text) if text.len() <= LABEL => out.say_shown(text),
+            Given::Typed(text) => {
+                out.say_shown(&text[..text.len().min(KEPT)]);
+                out.say(b" ..");
+            }
+            Given::Byte(b) => say!(out, "byte {b}"),
+            Given::Bytes(bytes) if bytes.len() <= FEW => out.say_joined(bytes, b" "),
             Given::Bytes(bytes) => {
-                let first = Listed::new(&bytes[..bytes.len().min(FEW)]);
-                write!(f, "{first} .. ({} bytes)", bytes.len())
+                out.say_joined(&bytes[..bytes.len().min(FEW)], b" ");
+                say!(out, " .. ({} bytes)", bytes.len());
             }
         }
     }
@@ -40,7 +42,9 @@ impl fmt::Display for Given<'_> {
 
 // The number in words, and the record after it.
 fn say_back(out: &mut Out, session: &mut Session, given: Given<'_>, came: &Came<'_>) {
-    say!(out, "{given}: {}", words::meaning(came.refusal()));
+    given.say(out);
+    out.say(b": ");
+    out.say(words::meaning(came.refusal()).as_bytes());
     show::say_after(out, &session.state, &came.state);
     session.keep(came);
 }

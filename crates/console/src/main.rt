@@ -17,7 +17,7 @@ use session::{Next, Session};
 use std::env::FillError;
 use std::io::{IsTerminal, Stdin};
 use std::rt::Env;
-use terminal::{Input, Out, Shown, Text, Unread, Write, say};
+use terminal::{Input, Out, Text, Unread, Write, say};
 
 // The most bytes of a line that are read.
 const LONGEST: usize = 4096;
@@ -88,11 +88,13 @@ fn read_all(out: &mut Out, stdin: Stdin, asks: bool) {
 fn say_argument(out: &mut Out, word: &[u8]) {
     match word {
         b"--help" => help::say_help(out),
-        _ => say!(
-            out,
-            "{}: the console knows no such argument; it reads lines, and `help` lists its words\n",
-            Shown(word)
-        ),
+        _ => {
+            out.say_shown(word);
+            say!(
+                out,
+                ": the console knows no such argument; it reads lines, and `help` lists its words\n"
+            );
+        }
     }
 }
 
@@ -108,7 +110,7 @@ fn begin(out: &mut Out, stdin: Stdin) {
 }
 
 fn main(rt: HostRuntime) {
-    let mut out = Out::to(rt.stdout());
+    let mut out = Out::new();
     let mut word = [0u8; 64];
     match rt.arg(1, &mut word) {
         Ok(n) => say_argument(&mut out, &word[..n]),

@@ -1,9 +1,9 @@
 // A line, by its first word.
 use crate::session::{MOST_ROOM, Next, Repeat, Report, Session};
-use crate::show::Drive;
+use crate::show::say_drive;
 use crate::{calls, help, record, send, stop};
 use line::{NoNumber, Word};
-use terminal::{Out, Shown, Text, Told, Write, say};
+use terminal::{Out, Text, Told, Write, say};
 
 const MOST_TURNS: usize = 1000;
 
@@ -60,7 +60,8 @@ impl<'a> Line<'a> {
 // A word that is bad, by the place where it stands.
 fn say_bad(out: &mut Out, text: &Text<'_>, word: Word<'_>, why: &str) -> Told {
     text.say_where(out, word.start);
-    say!(out, "{} {why}\n", Shown(word.bytes));
+    out.say_shown(word.bytes);
+    say!(out, " {why}\n");
     Told
 }
 
@@ -125,7 +126,9 @@ fn set_image(out: &mut Out, session: &mut Session, text: &mut Text<'_>) -> Resul
 
 fn power_on(out: &mut Out, session: &mut Session) {
     session.state = state::power_on();
-    say!(out, "power-on: {}\n", Drive(&session.state));
+    out.say(b"power-on: ");
+    say_drive(out, &session.state);
+    out.say(b"\n");
 }
 
 // Each is undone by saying it again.

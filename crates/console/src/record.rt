@@ -1,8 +1,7 @@
 // The record itself: set part by part, tested item by item, and shown whole.
 use crate::session::Session;
-use crate::show::Drive;
+use crate::show::say_drive;
 use state::{Song, State};
-use std::fmt;
 use terminal::{Listed, Out, Text, Told, Write, say};
 
 // The items of the record's test, in its order, as what breaks them; `state::broken` marks them in
@@ -46,14 +45,12 @@ pub fn set(out: &mut Out, session: &mut Session, text: &mut Text<'_>) -> Result<
     }
     session.state = state;
     if state::accepts(state) {
-        say!(out, "set: an accepted record; {}\n", Drive(&state));
+        out.say(b"set: an accepted record; ");
     } else {
-        say!(
-            out,
-            "set: a bad record (accepts? tells why); {}\n",
-            Drive(&state)
-        );
+        out.say(b"set: a bad record (accepts? tells why); ");
     }
+    say_drive(out, &state);
+    out.say(b"\n");
     Ok(())
 }
 
@@ -74,41 +71,29 @@ pub fn say_accepts(out: &mut Out, state: &State) {
 }
 
 // The numbers of the songs that are set.
-#[derive(Clone, Copy)]
-struct SetSongs<'a>(&'a [Song]);
-
-impl fmt::Display for SetSongs<'_> {
-    fn fmt<W: fmt::Write>(&self, f: &mut fmt::Formatter<W>) -> fmt::Result {
-        if self.0.iter().all(|song| song.len == 0) {
-            return f.write_str(" none");
+fn say_set_songs(out: &mut Out, table: &[Song]) {
+    if table.iter().all(|song| song.len == 0) {
+        out.say(b" none");
+    }
+    for (i, song) in table.iter().enumerate() {
+        if song.len > 0 {
+            out.say(b" ");
+            say!(out, "{i}");
         }
-        for (i, song) in self.0.iter().enumerate() {
-            if song.len > 0 {
-                write!(f, " {i}")?;
-            }
-        }
-        Ok(())
     }
 }
 
-// The first of some places, which are in use.
-#[derive(Clone, Copy)]
-struct Used<'a>(&'a [u8]);
-
-impl<'a> Used<'a> {
-    // As many as a count says, which in a bad record may be any.
-    fn new(places: &'a [u8], count: usize) -> Used<'a> {
-        Used(&places[..count.min(places.len())])
-    }
-}
-
-impl fmt::Display for Used<'_> {
-    fn fmt<W: fmt::Write>(&self, f: &mut fmt::Formatter<W>) -> fmt::Result {
-        match self.0 {
-            [] => f.write_str(" none"),
-            used => write!(f, " {}", Listed::new(used)),
+// The first of some places, which are in use: as many as a count says, which in a bad record may be
+// any.
+fn say_used(out: &mut Out, places: &[u8], count: usize) {
+    match &places[..count.min(places.len())] {
+        [] => out.say(b" none"),
+        used => {
+            out.say(b" ");
+            out.say_joined(used, b" ");
         }
     }
+    out.say(b"\n");
 }
 
 fn say_kept(out: &mut Out, state: &State) {
@@ -128,31 +113,30 @@ fn say_kept(out: &mut Out, state: &State) {
 }
 
 fn say_stream(out: &mut Out, state: &State) {
-    let list = Used::new(&state.stream.ids, usize::from(state.stream.count));
-    say!(
-        out,
-        "    streaming {}, stream list:{list}\n",
-        state.stream.on
-    );
+    let stream = &state.stream;
+    say!(out, "    streaming {}, stream list:", stream.on);
+    say_used(out, &stream.ids, usize::from(stream.count));
 }
 
 fn say_partial(out: &mut Out, state: &State) {
     let (count, remaining) = (state.partial.count, state.partial.remaining);
-    let held = Used::new(&state.partial.bytes, count);
-    say!(out, "    {count} bytes held, {remaining} to come:{held}\n");
+    say!(out, "    {count} bytes held, {remaining} to come:");
+    say_used(out, &state.partial.bytes, count);
 }
 
 // The whole record, for a person who asks for it.
 pub fn say_state(out: &mut Out, state: &State) {
-    say!(out, "{}\n", Drive(state));
+    say_drive(out, state);
+    out.say(b"\n");
     say_kept(out, state);
     let songs = &state.songs;
     let (selected, playing) = (songs.selected, songs.playing);
     say!(
         out,
-        "    song selected {selected}, playing {playing}, songs set:{}\n",
-        SetSongs(&songs.table)
+        "    song selected {selected}, playing {playing}, songs set:"
     );
+    say_set_songs(out, &songs.table);
+    out.say(b"\n");
     say_stream(out, state);
     say_partial(out, state);
 }

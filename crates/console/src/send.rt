@@ -2,7 +2,7 @@
 use crate::calls::give_bytes;
 use crate::perform::Line;
 use crate::session::Session;
-use terminal::{Listed, Out, Told, Write, say};
+use terminal::{Out, Told, Write, say};
 use words::meaning;
 
 // What the writer would take, for the commands of which it refuses something.
@@ -37,15 +37,18 @@ pub fn command(
         Ok(size) => {
             let written = &frame[..size.min(frame.len())];
             if session.verbose {
-                say!(out, "writes {}\n", Listed::new(written));
+                out.say(b"writes ");
+                out.say_joined(written, b" ");
+                out.say(b"\n");
             }
             give_bytes(out, session, line.typed, written);
             Ok(())
         }
         Err(refusal) => {
             line.rest.say_where(out, line.first.start);
-            let (why, legal) = (meaning(Some(refusal)), legal_of(op));
-            say!(out, "the writer refuses it: {why};\n    legal: {legal}\n");
+            out.say(b"the writer refuses it: ");
+            out.say(meaning(Some(refusal)).as_bytes());
+            say!(out, ";\n    legal: {}\n", legal_of(op));
             Err(Told)
         }
     }

@@ -3,7 +3,6 @@
 use drive::Speeds;
 use frame::Partial;
 use state::{Kept, Motors, Songs, State, Stream};
-use std::fmt;
 use terminal::{Listed, Out, Write, say};
 use words::Mode;
 
@@ -13,46 +12,39 @@ const LATE: usize = 66;
 
 const LATE_NUMBER: usize = 44;
 
-// A wheel order as a record has it, and the speeds that the wheels are given; an order of the
-// board's own always has them.
-#[derive(Clone, Copy)]
-struct Wheels<'a>(&'a Motors);
-
-impl fmt::Display for Wheels<'_> {
-    fn fmt<W: fmt::Write>(&self, f: &mut fmt::Formatter<W>) -> fmt::Result {
-        let (order, first, second) = (self.0.order, self.0.first, self.0.second);
-        match order {
-            state::NO_ORDER => return f.write_str("wheels stopped"),
-            state::DRIVE => write!(f, "drive {first} {second}")?,
-            state::DIRECT => write!(f, "direct {first} {second}")?,
-            _ => write!(f, "no such order ({order})")?,
-        }
-        let Ok(
+// The speeds that the wheels are given; an order of the board's own always has them.
+fn say_speeds(out: &mut Out, motors: &Motors) {
+    match drive::wheel_speeds(motors.order, motors.first, motors.second) {
+        Ok(
             Speeds {
                 right,
                 left,
                 capped,
             },
-        ) = drive::wheel_speeds(order, first, second)
-        else {
-            return f.write_str(" (no speeds)");
-        };
-        write!(
-            f,
-            " (right {right}, left {left}{})",
-            if capped { ", capped" } else { "" }
-        )
+        ) => {
+            let capped = if capped { ", capped" } else { "" };
+            say!(out, " (right {right}, left {left}{capped})");
+        }
+        Err(_) => out.say(b" (no speeds)"),
     }
 }
 
-// The mode and the wheels of a record.
-#[derive(Clone, Copy)]
-pub struct Drive<'a>(pub &'a State);
-
-impl fmt::Display for Drive<'_> {
-    fn fmt<W: fmt::Write>(&self, f: &mut fmt::Formatter<W>) -> fmt::Result {
-        write!(f, "{}, {}", Mode(self.0.mode), Wheels(&self.0.motors))
+// A wheel order as a record has it, and the speeds that the wheels are given.
+fn say_wheels(out: &mut Out, motors: &Motors) {
+    let (first, second) = (motors.first, motors.second);
+    match motors.order {
+        state::NO_ORDER => return out.say(b", wheels stopped"),
+        state::DRIVE => say!(out, ", drive {first} {second}"),
+        state::DIRECT => say!(out, ", direct {first} {second}"),
+        order => say!(out, ", no such order ({order})"),
     }
+    say_speeds(out, motors);
+}
+
+// The mode and the wheels of a record.
+pub fn say_drive(out: &mut Out, state: &State) {
+    say!(out, "{}", Mode(state.mode));
+    say_wheels(out, &state.motors);
 }
 
 // A mark, and what comes next behind it: on this line, or on one of its own where this one is late.
@@ -122,24 +114,26 @@ fn say_stream(out: &mut Out, a: &Stream, b: &Stream) {
     if a == b {
         return;
     }
+    let count = b.count;
     lead(out);
     match b.on {
-        state::NO => say!(out, "streaming off"),
-        state::YES => say!(out, "streaming on"),
-        on => say!(out, "streaming is {on}"),
+        state::NO => say!(out, "streaming off, list of {count}"),
+        state::YES => say!(out, "streaming on, list of {count}"),
+        on => say!(out, "streaming is {on}, list of {count}"),
     }
-    say!(out, ", list of {}", b.count);
 }
 
 // How much of a frame is half read.
 fn say_partial(out: &mut Out, partial: &Partial) {
-    if partial.count == 0 {
+    let (count, remaining) = (partial.count, partial.remaining);
+    if count == 0 {
         return;
     }
     lead(out);
-    say!(out, "half read: {} held", partial.count);
-    if partial.remaining > 0 {
-        say!(out, ", {} to come", partial.remaining);
+    if remaining > 0 {
+        say!(out, "half read: {count} held, {remaining} to come");
+    } else {
+        say!(out, "half read: {count} held");
     }
 }
 
@@ -147,7 +141,7 @@ fn say_partial(out: &mut Out, partial: &Partial) {
 // has changed.
 pub fn say_after(out: &mut Out, before: &State, after: &State) {
     mark(out, ';', LATE_NUMBER);
-    say!(out, "{}", Drive(after));
+    say_drive(out, after);
     say_bytes(out, "duties", &before.motors.duties, &after.motors.duties);
     say_kept(out, &before.kept, &after.kept);
     say_songs(out, &before.songs, &after.songs);

@@ -1,7 +1,6 @@
 // What stops the board whatever it holds: 511 bytes of 128.
 use crate::session::{MOST_ROOM, Session};
-use crate::show::Drive;
-use std::fmt;
+use crate::show::say_drive;
 use terminal::{Out, Write, say};
 use wire::Refusal;
 use words::meaning;
@@ -20,14 +19,16 @@ struct Range {
     gave: Option<Refusal>,
 }
 
-impl fmt::Display for Range {
-    fn fmt<W: fmt::Write>(&self, f: &mut fmt::Formatter<W>) -> fmt::Result {
-        let Range { first, last, gave } = *self;
+impl Range {
+    fn say(self, out: &mut Out) {
+        let Range { first, last, gave } = self;
         if first < last {
-            write!(f, "    bytes {first} to {last}: {}\n", meaning(gave))
+            say!(out, "    bytes {first} to {last}: ");
         } else {
-            write!(f, "    byte {first}: {}\n", meaning(gave))
+            say!(out, "    byte {first}: ");
         }
+        out.say(meaning(gave).as_bytes());
+        out.say(b"\n");
     }
 }
 
@@ -45,7 +46,7 @@ impl Stopping {
         let first = match last {
             Some(range) if range.gave == gave => range.first,
             Some(range) => {
-                say!(out, "{range}");
+                range.say(out);
                 k
             }
             None => k,
@@ -72,22 +73,19 @@ impl Stopping {
 
     fn say_end(&self, out: &mut Out, session: &Session) {
         if let Some(range) = self.range {
-            say!(out, "{range}");
+            range.say(out);
         }
         match self.opcode {
             Some(k) => say!(
                 out,
-                "    byte {k} was the first that was read as an opcode\n"
+                "    byte {k} was the first that was read as an opcode\n    "
             ),
-            None => say!(out, "    none was read as an opcode\n"),
+            None => say!(out, "    none was read as an opcode\n    "),
         }
+        say_drive(out, &session.state);
         let held = session.state.partial.count > 0;
         let half_read = if held { "a frame" } else { "nothing" };
-        say!(
-            out,
-            "    {}, {half_read} half read\n",
-            Drive(&session.state)
-        );
+        say!(out, ", {half_read} half read\n");
     }
 }
 

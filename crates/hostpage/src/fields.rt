@@ -20,7 +20,8 @@
 use crate::page::{Fault, Page, say_fault};
 use command::Command;
 use state::State;
-use terminal::{Listed, Out, Text, Write, say};
+use std::fmt;
+use terminal::{Out, Text, Write, say};
 use wire::Refusal;
 use words::{Mode, Value};
 
@@ -97,7 +98,9 @@ fn say_picked(out: &mut Out, bytes: &[u8], text: &mut Text<'_>) {
     if bytes.is_empty() {
         out.say(b"-");
     } else {
-        say!(out, "`{}`", Listed::new(bytes));
+        out.say(b"`");
+        out.say_joined(bytes, b" ");
+        out.say(b"`");
     }
 }
 
@@ -115,19 +118,29 @@ fn say_bytes(out: &mut Out, page: &Page, field: Bytes, text: &mut Text<'_>) {
 
 fn say_value(out: &mut Out, page: &Page) {
     match page.value {
-        Some(message) => say!(out, "`{}`", Value(message)),
+        Some(message) => {
+            out.say(b"`");
+            Value(message).say(out);
+            out.say(b"`");
+        }
         None => out.say(b"-"),
     }
 }
 
 // The modes that a command is for.
-fn say_modes(out: &mut Out, command: Command) {
-    let mut between = "";
-    for mode in [command::OFF, command::PASSIVE, command::SAFE, command::FULL] {
-        if command::allowed(command, mode) {
-            say!(out, "{between}{}", Mode(mode));
-            between = ", ";
+#[derive(Clone, Copy)]
+struct Modes(Command);
+
+impl fmt::Display for Modes {
+    fn fmt<W: fmt::Write>(&self, f: &mut fmt::Formatter<W>) -> fmt::Result {
+        let mut between = "";
+        for mode in [command::OFF, command::PASSIVE, command::SAFE, command::FULL] {
+            if command::allowed(self.0, mode) {
+                write!(f, "{between}{}", Mode(mode))?;
+                between = ", ";
+            }
         }
+        Ok(())
     }
 }
 
@@ -158,7 +171,7 @@ fn to_opcode(state: &State) -> usize {
 fn say_alone(out: &mut Out, page: &Page, field: Alone, rest: &[u8]) {
     match field {
         Alone::Value => say_value(out, page),
-        Alone::Modes => say_modes(out, page.command),
+        Alone::Modes => say!(out, "{}", Modes(page.command)),
         Alone::Hex => say!(out, "`0x{:02X}`", page.opcode),
         Alone::Rest => out.say(rest),
         Alone::Written => say!(out, "{}", words::number(page.written.err())),

@@ -93,7 +93,7 @@ fn take(out: &mut Out, page: &mut Page, text: Text<'_>) {
 // A proved loop has to end, and nothing says that the input does: the turns count up to a number
 // that no run reaches.
 fn main(rt: HostRuntime) {
-    let mut out = Out::to(rt.stdout());
+    let mut out = Out::new();
     let mut input = Input::new(rt.stdin());
     let mut room = [0u8; LONGEST];
     let mut page = Page::new();

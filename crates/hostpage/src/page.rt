@@ -116,6 +116,6 @@ impl fmt::Display for Fault {
 
 // A message with its line and place.
 pub fn say_fault(out: &mut Out, text: &Text<'_>, place: usize, fault: Fault) {
-    text.say_where(out, place);
-    say!(out, "{fault}\n");
+    let (line, place) = (text.number, place.wrapping_add(1));
+    say!(out, "line {line}: place {place}: {fault}\n");
 }

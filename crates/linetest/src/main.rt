@@ -6,7 +6,7 @@
 ghost use Rattle.std.specs.Prelude.{◌+◌, ◌≤◌, ◌<◌, length, IfSome};
 
 use line::{NoNumber, Number};
-use terminal::{Out, Shown, Write, say};
+use terminal::{Out, Write, say};
 
 // The most bytes of a line that are kept here.
 const ROOM: usize = 24;
@@ -57,17 +57,18 @@ impl Held {
 // What a word is as a number, and the end of its line.
 fn say_value(out: &mut Out, word: &[u8]) {
     match line::signed(word) {
-        Ok(Number::Plain(n)) => say!(out, "number {n}\n"),
-        Ok(Number::Minus(n)) => say!(out, "number -{n}\n"),
-        Err(NoNumber::TooLarge) => say!(out, "a number too large\n"),
-        Err(NoNumber::NotANumber) => say!(out, "no number\n"),
+        Ok(Number::Plain(n)) => say!(out, ", number {n}\n"),
+        Ok(Number::Minus(n)) => say!(out, ", number -{n}\n"),
+        Err(NoNumber::TooLarge) => say!(out, ", a number too large\n"),
+        Err(NoNumber::NotANumber) => say!(out, ", no number\n"),
     }
 }
 
 fn say_words(out: &mut Out, text: &[u8]) {
     let mut from = 0;
     while let Some(word) = line::next_word(text, from) {
-        say!(out, "    place {}: {}, ", word.start + 1, Shown(word.bytes));
+        say!(out, "    place {}: ", word.start + 1);
+        out.say_shown(word.bytes);
         say_value(out, word.bytes);
         from = word.end();
     }
@@ -95,12 +96,13 @@ fn read_text(out: &mut Out, text: &[u8]) {
 }
 
 fn show(out: &mut Out, name: &str, text: &[u8]) {
-    say!(out, "{name}, {} bytes\n", text.len());
+    say!(out, "{name}");
+    say!(out, ", {} bytes\n", text.len());
     read_text(out, text);
 }
 
-fn main(rt: HostRuntime) {
-    let mut out = Out::to(rt.stdout());
+fn main() {
+    let mut out = Out::new();
     show(
         &mut out,
         "ordinary",

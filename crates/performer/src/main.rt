@@ -44,7 +44,7 @@ fn perform(out: &mut Out, window: &mut Window, report: &mut Report) -> Result<()
 }
 
 fn main(rt: HostRuntime) {
-    let mut out = Out::to(rt.stdout());
+    let mut out = Out::new();
     let mut window = Window::new(rt.stdin());
     let mut report = Report::new(Style::asked(&rt));
     let ended = perform(&mut out, &mut window, &mut report);

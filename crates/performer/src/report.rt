@@ -4,7 +4,7 @@ use crate::layout::put_state;
 use crate::tally::{Tally, Trace};
 use state::State;
 use std::rt::Env;
-use terminal::{Out, Write, say};
+use terminal::Out;
 
 // A summary with the records in its digest, one without, or a line for each call.
 #[derive(Clone, Copy, Debug, PartialEq, Eq)]
@@ -67,7 +67,7 @@ impl Report {
     // A trace has no summary.
     pub fn finish(&self, out: &mut Out) {
         if self.style != Style::Trace {
-            say!(out, "{}\n", self.tally);
+            self.tally.say(out);
         }
     }
 }

@@ -1,7 +1,6 @@
 // What was given: counted and digested, or in hexadecimal.
 use crate::calls::Given;
 use crate::layout::Sink;
-use std::fmt;
 use terminal::{Out, Write, say};
 
 // The greatest prime below 2 to the 32nd.
@@ -55,15 +54,13 @@ impl Tally {
         self.digest.put_word(given.read);
         self.digest.put(answer);
     }
-}
 
-impl fmt::Display for Tally {
-    fn fmt<W: fmt::Write>(&self, f: &mut fmt::Formatter<W>) -> fmt::Result {
-        write!(f, "calls {} numbers", self.calls)?;
+    pub fn say(&self, out: &mut Out) {
+        say!(out, "calls {} numbers", self.calls);
         for n in &self.numbers {
-            write!(f, " {n}")?;
+            say!(out, " {n}");
         }
-        write!(f, " bytes {} digest {}", self.bytes, self.digest.0)
+        say!(out, " bytes {} digest {}\n", self.bytes, self.digest.0);
     }
 }
 
@@ -76,10 +73,12 @@ pub struct Trace<'a> {
     pub out: &'a mut Out,
 }
 
-const DIGITS: [u8; 16] = *b"0123456789abcdef";
+fn digit(n: u8) -> u8 {
+    if n < 10 { b'0' + n } else { b'a' - 10 + n % 16 }
+}
 
 fn hexadecimal(b: u8) -> [u8; 2] {
-    [DIGITS[usize::from(b / 16)], DIGITS[usize::from(b % 16)]]
+    [digit(b / 16), digit(b % 16)]
 }
 
 // Many bytes become text at once: a record has 602, each by `{b:02x}` cost four times as much.
@@ -98,16 +97,14 @@ impl Sink for Trace<'_> {
 impl Trace<'_> {
     // The line of a call, up to the record after it.
     pub fn put_call(&mut self, given: Given, answer: &[u8]) {
+        let nothing = if answer.is_empty() { "-" } else { "" };
         say!(
             self.out,
-            "{} {} {} ",
+            "{} {} {} {nothing}",
             given.number(),
             answer.len(),
             given.read
         );
-        if answer.is_empty() {
-            self.out.say(b"-");
-        }
         self.put(answer);
         self.out.say(b" ");
     }

@@ -1,27 +1,24 @@
 // Text to standard output.
-ghost use Rattle.std.specs.Prelude.{◌≡◌};
+ghost use Rattle.std.specs.Prelude.{◌≡◌, ◌+◌, ◌%◌, ◌^◌, ◌≤◌, ◌<◌, length, IfSome};
 ghost use Rattle.terminal.specs.Columns.{columns_after};
 
 use crate::say;
 use arrayvec::ArrayVec;
 use std::fmt;
 use std::fmt::Write;
-use std::io::{Stdout, Write as _};
 
 const STDOUT: i32 = 1;
 
 const STDERR: i32 = 2;
 
-// What waits to be written at once.
-const ROOM: usize = 1024;
+// The most of a piece that is said in parts.
+const ROOM: usize = 256;
 
-// Standard output, where it is at hand; the text that waits and where each piece of it ends, the
-// columns of its last line, and whether it has been told that it cannot be written.
+// Standard output: a piece of which more may be said, the columns of its last line, and whether it
+// has been told that it cannot be written.
 #[derive(Drop)]
 pub struct Out {
-    stdout: Option<Stdout>,
-    waiting: ArrayVec<u8, ROOM>,
-    ends: ArrayVec<u16, ROOM>,
+    piece: ArrayVec<u8, ROOM>,
     column: usize,
     told: bool,
 }
@@ -34,11 +31,30 @@ fn write_or_tell(text: &[u8], told: &mut bool) {
     }
 }
 
-// The column after a text, which is looked at from its end: what stands before its last newline
-// does not count.
+// The column after a text that has no newline. Every byte is looked at, so that many are at once.
+fn columns_past(column: usize, text: &[u8]) -> Option<usize>
+    ensures { IfSome result (λ c. c ≡ columns_after column text.now) }
+{
+    let mut newline = false;
+    for &b in text {
+        if b == b'\n' {
+            newline = true;
+        }
+    }
+    if newline {
+        return None;
+    }
+    Some(column.wrapping_add(text.len()))
+}
+
+// The column after a text. One that has a newline is looked at from its end: what stands before its
+// last newline does not count.
 fn columns_behind(column: usize, text: &[u8]) -> usize
     ensures { result ≡ columns_after column text.now }
 {
+    if let Some(column) = columns_past(column, text) {
+        return column;
+    }
     let mut added = 0;
     while added < text.len() {
         let last = text[text.len() - added - 1];
@@ -51,27 +67,11 @@ fn columns_behind(column: usize, text: &[u8]) -> usize
 }
 
 impl Out {
-    // Each piece is written by itself.
     pub fn new() -> Out
         ensures { result.column ≡ 0 }
     {
-        Out::over(None)
-    }
-
-    // What waits is written at once, as far as it is taken.
-    pub fn to(stdout: Stdout) -> Out
-        ensures { result.column ≡ 0 }
-    {
-        Out::over(Some(stdout))
-    }
-
-    fn over(stdout: Option<Stdout>) -> Out
-        ensures { result.column ≡ 0 }
-    {
         Out {
-            stdout,
-            waiting: ArrayVec::new(),
-            ends: ArrayVec::new(),
+            piece: ArrayVec::new(),
             column: 0,
             told: false,
         }
@@ -91,24 +91,39 @@ impl Out {
         self.column = 0;
     }
 
-    // Text as it is. What does not fit behind what waits goes after it, and what is longer than all
-    // that may wait is written as it is.
-    pub fn say(&mut self, text: &[u8])
+    // What there is of a piece is written, at once: where output fails, it is lost as one.
+    pub fn flush(&mut self)
+        ensures { self.new.column ≡ self.old.column }
+    {
+        if !self.piece.is_empty() {
+            write_or_tell(self.piece.as_slice(), &mut self.told);
+            self.piece.clear();
+        }
+    }
+
+    // More of a piece. What does not fit behind it begins another.
+    fn add(&mut self, text: &[u8])
         ensures { self.new.column ≡ columns_after self.old.column text.now }
     {
-        if self.waiting.remaining_capacity() < text.len() {
+        if self.piece.remaining_capacity() < text.len() {
             self.flush();
         }
-        if self.waiting.try_extend_from_slice(text).is_err() {
+        if self.piece.try_extend_from_slice(text).is_err() {
             write_or_tell(text, &mut self.told);
-        } else if !text.is_empty() {
-            let end = u16::try_from(self.waiting.len()).unwrap_or(u16::MAX);
-            let _ = self.ends.try_push(end);
         }
         self.column = columns_behind(self.column, text);
     }
 
-    // Numbers, with any bytes between them; `Listed` has a text there.
+    // Text as it is, as one piece.
+    pub fn say(&mut self, text: &[u8])
+        ensures { self.new.column ≡ columns_after self.old.column text.now }
+    {
+        self.flush();
+        write_or_tell(text, &mut self.told);
+        self.column = columns_behind(self.column, text);
+    }
+
+    // Numbers, with any bytes between them, each a piece; `Listed` is for those within a text.
     pub fn say_joined(&mut self, bytes: &[u8], between: &[u8]) {
         for (i, b) in bytes.iter().enumerate() {
             if i > 0 {
@@ -118,28 +133,15 @@ impl Out {
         }
     }
 
-    // What waits is written at once. Where not all of it is taken, the rest goes piece by piece, as
-    // it was said: of one that cannot be written the rest is lost, and the next is tried.
-    pub fn flush(&mut self)
-        ensures { self.new.column ≡ self.old.column }
+    // Text that a person typed, each byte of it a piece, and a column.
+    pub fn say_shown(&mut self, text: &[u8])
+        ensures { self.new.column ≡ (self.old.column + length text.now) % 2 ^ 64 }
     {
-        if self.waiting.is_empty() {
-            return;
+        self.flush();
+        for &b in text {
+            write_or_tell(&[visible(b)], &mut self.told);
         }
-        let text = self.waiting.as_slice();
-        let mut from = match &mut self.stdout {
-            Some(stdout) => stdout.write(text).unwrap_or(0),
-            None => 0,
-        };
-        if from < text.len() {
-            for &end in self.ends.as_slice() {
-                let piece = text.get(from..usize::from(end)).unwrap_or(b"");
-                write_or_tell(piece, &mut self.told);
-                from = from.max(usize::from(end));
-            }
-        }
-        self.waiting = ArrayVec::new();
-        self.ends = ArrayVec::new();
+        self.column = self.column.wrapping_add(text.len());
     }
 
     // The start of a message: where a person finds what was wrong. Places are counted from 1.
@@ -158,29 +160,36 @@ impl Out {
 
 impl fmt::Write for Out {
     fn write_str(&mut self, text: &str) -> fmt::Result {
-        self.say(text.as_bytes());
+        self.add(text.as_bytes());
         Ok(())
     }
 }
 
-// `write!` to standard output, of which no error is left to handle: what cannot be written, `Out`
-// tells.
+// `write!` to standard output, as one piece. No error is left to handle: what cannot be written,
+// `Out` tells.
 #[macro_export]
 macro_rules! say {
     ($out:expr, $($text:tt)*) => {{
         let _ = write!($out, $($text)*);
+        $out.flush();
     }};
 }
 
-// Text that a person typed: a byte that a terminal would not show is written as a dot.
+// A byte that a terminal would not show is written as a dot.
+fn visible(b: u8) -> u8
+    ensures { (32 ≤ result) × (result < 127) }
+{
+    if (32..127).contains(&b) { b } else { b'.' }
+}
+
+// Text that a person typed, as it is shown.
 #[derive(Clone, Copy)]
 pub struct Shown<'a>(pub &'a [u8]);
 
 impl fmt::Display for Shown<'_> {
     fn fmt<W: fmt::Write>(&self, f: &mut fmt::Formatter<W>) -> fmt::Result {
         for &b in self.0 {
-            let shown = if (32..127).contains(&b) { b } else { b'.' };
-            f.write_char(char::from(shown))?;
+            f.write_char(char::from(visible(b)))?;
         }
         Ok(())
     }

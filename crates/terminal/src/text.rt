@@ -3,7 +3,7 @@
 ghost use Rattle.std.specs.Prelude.{◌≡◌, ◌+◌, ◌≤◌, ◌<◌, length, min, take, IfOk, IfSome, MatchOption};
 ghost use Rattle.line.specs.Text.{word_from, NoWord, IsWord};
 
-use crate::output::{Out, Shown};
+use crate::output::Out;
 use crate::say;
 use line::{NoNumber, Number, Word};
 use std::fmt;
@@ -187,7 +187,8 @@ impl<'a> Text<'a> {
                 }
                 Err(fault) => {
                     self.say_where(out, word.start);
-                    say!(out, "{} {fault}\n", Shown(word.bytes));
+                    out.say_shown(word.bytes);
+                    say!(out, " {fault}\n");
                     return Err(Told);
                 }
             }
@@ -215,12 +216,9 @@ impl<'a> Text<'a> {
             return Ok(v);
         }
         self.say_where(out, place);
-        say!(
-            out,
-            "{} is not a number from -{} to {most}\n",
-            Shown(word.bytes),
-            most.wrapping_add(1)
-        );
+        out.say_shown(word.bytes);
+        let least = most.wrapping_add(1);
+        say!(out, " is not a number from -{least} to {most}\n");
         Err(Told)
     }
 
@@ -230,7 +228,8 @@ impl<'a> Text<'a> {
             return Ok(());
         };
         self.say_where(out, word.start);
-        say!(out, "{} is one word too many\n", Shown(word.bytes));
+        out.say_shown(word.bytes);
+        out.say(b" is one word too many\n");
         Err(Told)
     }
 }

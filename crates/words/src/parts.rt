@@ -5,7 +5,7 @@
 //     length SONG N     note SONG I N     id I N     ids N (how many)     streaming N
 //     held I N     stored N (how many bytes are held)     owed N
 use state::State;
-use terminal::{Out, Shown, Text, Told, Write, say};
+use terminal::{Out, Text, Told, Write, say};
 
 #[derive(Clone, Copy, Debug, PartialEq, Eq)]
 enum Setting {
@@ -182,7 +182,8 @@ pub fn set_part(out: &mut Out, state: &mut State, text: &mut Text<'_>) -> Result
     let word = text.name();
     let Some(setting) = Setting::named(word) else {
         text.say_where(out, start);
-        say!(out, "{} is no part of a record\n", Shown(word));
+        out.say_shown(word);
+        out.say(b" is no part of a record\n");
         return Err(Told);
     };
     let limits = setting.limits();

@@ -4,8 +4,7 @@ ghost use Rattle.wire.specs.Replies.{number_of};
 
 use command::{Command, Message};
 use std::fmt;
-use std::fmt::Write;
-use terminal::Listed;
+use terminal::{Out, Write, say};
 use wire::Refusal;
 
 // A mode by its name; one that has none, by its number.
@@ -71,19 +70,15 @@ fn listed(message: &Message) -> &[u8] {
 #[derive(Clone, Copy)]
 pub struct Value(pub Message);
 
-impl fmt::Display for Value {
-    fn fmt<W: fmt::Write>(&self, f: &mut fmt::Formatter<W>) -> fmt::Result {
-        write!(f, "{:?}", self.0.command)?;
-        match listed(&self.0) {
-            [] => Ok(()),
-            bytes => write!(
-                f,
-                " [{}]",
-                Listed {
-                    bytes,
-                    between: ", "
-                }
-            ),
+impl Value {
+    // Each note or id is a piece.
+    pub fn say(&self, out: &mut Out) {
+        say!(out, "{:?}", self.0.command);
+        let listed = listed(&self.0);
+        if !listed.is_empty() {
+            out.say(b" [");
+            out.say_joined(listed, b", ");
+            out.say(b"]");
         }
     }
 }
