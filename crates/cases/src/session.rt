@@ -4,7 +4,7 @@ use arrayvec::ArrayVec;
 use state::State;
 use std::fmt;
 use std::fmt::Write;
-use terminal::{Out, Told, say};
+use terminal::{Out, Told, Where, say};
 
 // The most records by name, and the bytes of their names with a blank behind each. `then` and
 // `before` are two more of 32, and of 512 bytes.
@@ -66,8 +66,7 @@ impl fmt::Display for Fault {
 
 impl Fault {
     pub fn tell(self, out: &mut Out, line: usize, place: usize) -> Told {
-        let place = place.wrapping_add(1);
-        say!(out, "line {line}: place {place}: {self}\n");
+        say!(out, "{}{self}\n", Where { line, place });
         Told
     }
 }

@@ -6,7 +6,7 @@ use command::{Command, Message};
 use state::State;
 use std::fmt;
 use std::fmt::Write;
-use terminal::{Out, Text, say};
+use terminal::{Out, Text, Where, say};
 use wire::Refusal;
 
 // The most bytes of a line.
@@ -116,6 +116,6 @@ impl fmt::Display for Fault {
 
 // A message with its line and place.
 pub fn say_fault(out: &mut Out, text: &Text<'_>, place: usize, fault: Fault) {
-    let (line, place) = (text.number, place.wrapping_add(1));
-    say!(out, "line {line}: place {place}: {fault}\n");
+    let line = text.number;
+    say!(out, "{}{fault}\n", Where { line, place });
 }

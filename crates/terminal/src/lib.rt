@@ -8,7 +8,7 @@ mod output;
 mod text;
 
 pub use input::{Input, Over, Unread, read_into};
-pub use output::{Listed, Out, Shown};
+pub use output::{Listed, Out, Shown, Where};
 // For `say!`.
 pub use std::fmt::Write;
 pub use text::{Bytes, MOST, Text, Told};

@@ -91,7 +91,7 @@ impl Out {
         self.column = 0;
     }
 
-    // What there is of a piece is written, at once: where output fails, it is lost as one.
+    // What there is of a piece is written, by one write.
     pub fn flush(&mut self)
         ensures { self.new.column ≡ self.old.column }
     {
@@ -133,7 +133,7 @@ impl Out {
         }
     }
 
-    // Text that a person typed, each byte of it a piece, and a column.
+    // Text that a person typed, each byte of it a piece, and a column, since none is a newline.
     pub fn say_shown(&mut self, text: &[u8])
         ensures { self.new.column ≡ (self.old.column + length text.now) % 2 ^ 64 }
     {
@@ -144,10 +144,9 @@ impl Out {
         self.column = self.column.wrapping_add(text.len());
     }
 
-    // The start of a message: where a person finds what was wrong. Places are counted from 1.
+    // The start of a message, where what was wrong follows as pieces of its own.
     pub fn say_where(&mut self, line: usize, place: usize) {
-        let place = place.wrapping_add(1);
-        say!(self, "line {line}: place {place}: ");
+        say!(self, "{}", Where { line, place });
     }
 
     // Spaces up to a column.
@@ -173,6 +172,20 @@ macro_rules! say {
         let _ = write!($out, $($text)*);
         $out.flush();
     }};
+}
+
+// The start of a message: where a person finds what was wrong. A place is told counted from 1.
+#[derive(Clone, Copy)]
+pub struct Where {
+    pub line: usize,
+    pub place: usize,
+}
+
+impl fmt::Display for Where {
+    fn fmt<W: fmt::Write>(&self, f: &mut fmt::Formatter<W>) -> fmt::Result {
+        let (line, place) = (self.line, self.place.wrapping_add(1));
+        write!(f, "line {line}: place {place}: ")
+    }
 }
 
 // A byte that a terminal would not show is written as a dot.
