@@ -4,7 +4,7 @@ ghost use Rattle.wire.specs.Replies.{number_of};
 
 use command::{Command, Message};
 use std::fmt;
-use terminal::{Out, Write, say};
+use terminal::{Listed, Out, Write, say};
 use wire::Refusal;
 
 // A mode by its name; one that has none, by its number.
@@ -70,8 +70,25 @@ fn listed(message: &Message) -> &[u8] {
 #[derive(Clone, Copy)]
 pub struct Value(pub Message);
 
+impl fmt::Display for Value {
+    fn fmt<W: fmt::Write>(&self, f: &mut fmt::Formatter<W>) -> fmt::Result {
+        write!(f, "{:?}", self.0.command)?;
+        match listed(&self.0) {
+            [] => Ok(()),
+            bytes => write!(
+                f,
+                " [{}]",
+                Listed {
+                    bytes,
+                    between: ", "
+                }
+            ),
+        }
+    }
+}
+
 impl Value {
-    // Each note or id is a piece.
+    // The same to standard output, where each note or id is a piece.
     pub fn say(&self, out: &mut Out) {
         say!(out, "{:?}", self.0.command);
         let listed = listed(&self.0);
@@ -80,5 +97,48 @@ impl Value {
             out.say_joined(listed, b", ");
             out.say(b"]");
         }
+    }
+}
+
+#[cfg(test)]
+mod tests {
+    use super::*;
+    use std::test::Fail;
+
+    // A payload that begins with some notes or ids.
+    fn payload(listed: &[u8]) -> [u8; 32] {
+        let mut payload = [0u8; 32];
+        for (to, &b) in payload.iter_mut().zip(listed) {
+            *to = b;
+        }
+        payload
+    }
+
+    // The first five as the page for hosts has them. Behind a count that is not legal nothing is
+    // listed.
+    #[test]
+    fn values_are_shown(rt: HostRuntime) -> Result<(), Fail> {
+        let values = [
+            (Command::Start, payload(b""), "Start"),
+            (Command::Drive(-200, 500), payload(b""), "Drive(-200, 500)"),
+            (
+                Command::Song(0, 2),
+                payload(&[60, 32, 64, 32]),
+                "Song(0, 2) [60, 32, 64, 32]",
+            ),
+            (Command::Stream(2), payload(&[29, 13]), "Stream(2) [29, 13]"),
+            (
+                Command::QueryList(3),
+                payload(&[35, 39, 40]),
+                "QueryList(3) [35, 39, 40]",
+            ),
+            (Command::QueryList(0), payload(&[35]), "QueryList(0)"),
+            (Command::QueryList(17), payload(&[35]), "QueryList(17)"),
+        ];
+        for (command, payload, text) in values {
+            let shown = format!(in rt.alloc(); "{}", Value(Message { command, payload }))?;
+            assert_eq!(rt; shown.as_str(), text);
+        }
+        Ok(())
     }
 }
